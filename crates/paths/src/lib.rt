@@ -1,0 +1,1 @@
+// No code: what a path is stands in specs/, the laws in proofs/.

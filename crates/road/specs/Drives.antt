@@ -1,0 +1,38 @@
+-- Drives, and when one is refused.
+use mathlib.Core.Path.{_≡_}
+use mathlib.Core.List.{List}
+use Prim.Native.Nat.{ℕ, _+_, _≤_, _<_}
+use lib.ListN.{length, getD}
+use Rattle.road.specs.declared.Verdict.{Verdict}
+use Rattle.road.specs.declared.Verdict.the-variants.{Passed, Refused}
+use Rattle.road.specs.declared.Refusal.the-variants.{Drive}
+use Rattle.road.specs.Limits.{mostDrive}
+use Rattle.road.specs.Refusals.{Fault, Of}
+use Rattle.road.specs.Roads.{nodesOf, Owns}
+
+-- some arc leads from u to v, whatever it weighs
+pub record Joined (starts heads : List ℕ) (u v : ℕ) : Type 0 where
+  pub place : ℕ
+  pub listed : place < length heads
+  pub owned : Owns starts u place
+  pub head : getD heads place 0 ≡ v
+
+-- 10: a drive of length 0 or above 4,096, a node at or above n, or two neighbours not joined by an arc
+pub data BadDrive (starts heads drive : List ℕ) : Type 0 where
+  none : length drive ≡ 0 → BadDrive starts heads drive
+  many : mostDrive < length drive → BadDrive starts heads drive
+  outside : (i : ℕ) → i < length drive → nodesOf starts ≤ getD drive i 0 → BadDrive starts heads drive
+  apart : (i : ℕ) → i + 1 < length drive → (Joined starts heads (getD drive i 0) (getD drive (i + 1) 0) → ⊥) → BadDrive starts heads drive
+
+abbrev pub driveFault : List ℕ → List ℕ → List ℕ → Fault
+driveFault starts heads drive = Of Drive (BadDrive starts heads drive)
+
+-- the first i positions are without fault
+pub record Entered (starts heads drive : List ℕ) (i : ℕ) : Type 0 where
+  pub inside : (j : ℕ) → j < i → getD drive j 0 < nodesOf starts
+  pub joins : (j : ℕ) → j + 1 < i → Joined starts heads (getD drive j 0) (getD drive (j + 1) 0)
+
+-- a verdict on position i, after those before it
+abbrev pub Judges-position : List ℕ → List ℕ → List ℕ → ℕ → Verdict → Type 0
+Judges-position starts heads drive i Passed = Entered starts heads drive (i + 1)
+Judges-position starts heads drive i (Refused r) = driveFault starts heads drive r
