@@ -43,14 +43,15 @@ module _ {G : Graph} where
   turned-path g {a} {l} {b} {w} p = of (back-onto [] a 0 (p .along) stop)
     where
       of : Back G a l [] b a (w + 0) → (k : List ℕ) × (b ∷ k ≡ reverse (a ∷ l)) × IsPath (turned G) b k a w
-      of k =
-          ( k .after
-          , k .list
-          , record {
-              node = end-node g (p .node) (p .along);
-              along = weighing (omega arith) (k .along);
-              different = subst Different (sym (k .list)) (different-onto (a ∷ l) [] (p .different) tt (λ x h n. n))
-            } )
+      of k = (
+        k .after,
+        k .list,
+        record {
+          node = end-node g (p .node) (p .along);
+          along = weighing (omega arith) (k .along);
+          different = subst Different (sym (k .list)) (different-onto (a ∷ l) [] (p .different) tt (λ x h n. n));
+        },
+      )
 
   -- and the nodes strictly inside are the same
   pub turned-reaches : Proper G → {P : ℕ → Type 0} {a b w : ℕ} → Reaches G P a b w → Reaches (turned G) P b a w

@@ -56,7 +56,7 @@ module _ {G : Graph} where
       record {
         after = f .after ++ g .after;
         along = joined (f .along) (g .along);
-        inner = inside-joined P (g .after) (f .along) (f .inner) p (g .inner)
+        inner = inside-joined P (g .after) (f .along) (f .inner) p (g .inner);
       }
 
   -- a path is a walk
@@ -73,7 +73,7 @@ module _ {G : Graph} where
         whole = refl;
         to = subst (λ (x : ℕ). Along G a [] x 0) (sym e) stop;
         from = subst (λ (x : ℕ). Along G x l b w) (sym e) r;
-        weight = omega arith
+        weight = omega arith;
       }
 
   cut-further : {a x : ℕ} {l : List ℕ} {b d c : ℕ} (w : ℕ) → G .Step a x w → Cut G x l b d c → Cut G a (x ∷ l) b (w + d) c
@@ -86,7 +86,7 @@ module _ {G : Graph} where
         whole = ap (λ (m : List ℕ). x ∷ m) (k .whole);
         to = step s (k .to);
         from = k .from;
-        weight = omega (arith, k .weight)
+        weight = omega (arith, k .weight);
       }
 
   -- a way is cut at any node of it
@@ -116,7 +116,7 @@ module _ {G : Graph} where
           record {
             at = k;
             to = record { node = p .node; along = k .to; different = different-front (a ∷ k .front) (k .back) d };
-            from = record { node = end-node g (p .node) (k .to); along = k .from; different = different-from (k .back) (k .to) d }
+            from = record { node = end-node g (p .node) (k .to); along = k .from; different = different-from (k .back) (k .to) d };
           }
 
   module _ (P : ℕ → Type 0) where
@@ -132,7 +132,7 @@ module _ {G : Graph} where
               along = k .from;
               different = different-from (k .back) (k .to) (subst (λ (m : List ℕ). Different (x ∷ m)) (k .whole) (s .different));
               inner = inside-back P (k .front) (k .back) (subst (λ (m : List ℕ). Inside P m) (k .whole) (s .inner));
-              lighter = omega (arith, k .weight, s .lighter)
+              lighter = omega (arith, k .weight, s .lighter);
             }
 
     lengthen : {a x b d : ℕ} (w : ℕ) → G .Step a x w → (s : Simple G P x b d) → (Mem a (x ∷ s .after) → ⊥) → Inside P (x ∷ s .after) → Simple G P a b (w + d)
@@ -143,7 +143,7 @@ module _ {G : Graph} where
           along = step t (s .along);
           different = (n, s .different);
           inner = i;
-          lighter = omega (arith, s .lighter)
+          lighter = omega (arith, s .lighter);
         }
 
     onward : {a x b d : ℕ} (w : ℕ) → G .Step a x w → (s : Simple G P x b d) → Inside P (x ∷ s .after) → Simple G P a b (w + d)
@@ -167,7 +167,8 @@ module _ {G : Graph} where
   path-within {P} {a} {b} {w} h k = of (simple P (k .along) (k .inner))
     where
       of : Simple G P a b w → (d : ℕ) × Reaches G P a b d × (d ≤ w)
-      of s =
-          ( s .weight
-          , record { after = s .after; path = record { node = h; along = s .along; different = s .different }; inner = s .inner }
-          , s .lighter )
+      of s = (
+        s .weight,
+        record { after = s .after; path = record { node = h; along = s .along; different = s .different }; inner = s .inner },
+        s .lighter,
+      )

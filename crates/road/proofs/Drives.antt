@@ -83,15 +83,15 @@ module _ (starts heads drive : List ℕ) where
   entered-first i e h =
       record {
         inside = λ j l. omega (arith, h, ap (λ (k : ℕ). getD drive k 0) (only j l));
-        joins = λ j l. absurd (omega arith)
+        joins = λ j l. absurd (omega arith);
       }
     where
       only : (j : ℕ) → j < i + 1 → j ≡ i
       only j l = omega arith
 
   pub entered-more :
-    (i : ℕ) → i ≢ 0 → Entered starts heads drive i → getD drive i 0 < nodesOf starts → Joined starts heads (getD drive (i - 1) 0) (getD drive i 0) →
-    Entered starts heads drive (i + 1)
+      (i : ℕ) → i ≢ 0 → Entered starts heads drive i → getD drive i 0 < nodesOf starts → Joined starts heads (getD drive (i - 1) 0) (getD drive i 0) →
+      Entered starts heads drive (i + 1)
   entered-more i n e h j = record { inside = below-more (λ (k : ℕ). getD drive k 0 < nodesOf starts) i (e .inside) h; joins = λ k l. by k l (ℕ-discrete (k + 1) i) }
     where
       by : (k : ℕ) → k + 1 < i + 1 → Dec (k + 1 ≡ i) → Joined starts heads (getD drive k 0) (getD drive (k + 1) 0)

@@ -62,7 +62,7 @@ rising-of starts heads n =
     record {
       begins = not-unlike (getD starts 0 0) 0 (λ h. n (first h));
       rises = λ u b. not-over (getD starts u 0) (getD starts (u + 1) 0) (λ h. n (falls u b h));
-      ends = not-unlike (getD starts (nodesOf starts) 0) (length heads) (λ h. n (last h))
+      ends = not-unlike (getD starts (nodesOf starts) 0) (length heads) (λ h. n (last h));
     }
 
 module _ (L : Limits) (starts heads weights : List ℕ) where
@@ -79,7 +79,7 @@ module _ (L : Limits) (starts heads weights : List ℕ) where
         least = not-over 2 (length starts) (λ h. n (few-starts h));
         most = not-over (length starts) (mostNodes + 1) (λ h. n (many-starts h));
         alike = not-unlike (length heads) (length weights) (λ h. n (unlike h));
-        few = not-over (length heads) (L .arcs .0) (λ h. n (many-heads h))
+        few = not-over (length heads) (L .arcs .0) (λ h. n (many-heads h));
       }
 
   pub listed-of : Sized L starts heads weights → Rising starts heads → Listed starts heads weights
@@ -87,8 +87,8 @@ module _ (L : Limits) (starts heads weights : List ℕ) where
 
   -- an arc without fault
   pub arc-clear :
-    (p : ℕ) → (HeadOutside starts heads p → ⊥) → (HeadIsTail starts heads p → ⊥) → (HeadFalls starts heads p → ⊥) → (TooHeavy L weights p → ⊥) →
-    None (arcFaults L starts heads weights p)
+      (p : ℕ) → (HeadOutside starts heads p → ⊥) → (HeadIsTail starts heads p → ⊥) → (HeadFalls starts heads p → ⊥) → (TooHeavy L weights p → ⊥) →
+      None (arcFaults L starts heads weights p)
   arc-clear p a b c d = (untold a, (untold b, (untold c, (untold d, tt))))
 
   -- no first bad arc: no bad arc
@@ -120,11 +120,11 @@ module _ (L : Limits) (starts heads weights : List ℕ) where
         inside = λ p h. not-over (suc (getD heads p 0)) (nodesOf starts) (λ l. unheld (clear p h .0) (record { outside = omega arith }));
         unlooped = λ u p o e. unheld (clear p (owned-listed starts heads ri u p o) .1 .0) (record { tail = u; owned = o; same = e });
         ascends =
-          λ u p o q.
+            λ u p o q.
             not-over (suc (getD heads p 0)) (getD heads (p + 1) 0)
             (λ l. unheld (clear (p + 1) (owned-listed starts heads ri u (p + 1) q) .1 .1 .0)
             (record { tail = u; former = p; next = refl; before = o; owned = q; falls = omega arith }));
-        light = λ p h. not-over (getD weights p 0) (L .weight) (λ l. unheld (clear p h .1 .1 .1 .0) (record { over = l }))
+        light = λ p h. not-over (getD weights p 0) (L .weight) (λ l. unheld (clear p h .1 .1 .1 .0) (record { over = l }));
       }
 
   -- and a well-formed graph is without fault
@@ -140,11 +140,16 @@ module _ (L : Limits) (starts heads weights : List ℕ) where
           omega (arith, g .ascends (o .tail) (o .former) (o .before) owned, ap (λ (x : ℕ). getD heads x 0) (o .next), o .falls)
 
   pub none-of-sound : Sound L starts heads weights → None (graphFaults L starts heads weights)
-  none-of-sound g =
-      ( untold (sizes-clear (g .sized))
-      , ( untold (starts-clear starts heads (g .rising))
-      , ( (λ r f. first-not-none (arcFaults L starts heads weights (f .place)) r (f .here) (arc-sound g (f .place) (f .listed)))
-      , tt ) ) )
+  none-of-sound g = (
+    untold (sizes-clear (g .sized)),
+    (
+      untold (starts-clear starts heads (g .rising)),
+      (
+        (λ r f. first-not-none (arcFaults L starts heads weights (f .place)) r (f .here) (arc-sound g (f .place) (f .listed))),
+        tt,
+      ),
+    ),
+  )
 
   -- the first bad arc is one
   arc-single : (p : ℕ) → Singles (arcFaults L starts heads weights p)
@@ -171,7 +176,7 @@ module _ (L : Limits) (starts heads weights : List ℕ) where
   road-proper g =
       record {
         tail = λ {u} {v} {w} a. owner-node starts u (a .place) (a .owned);
-        head = λ {u} {v} {w} a. omega (arith, g .inside (a .place) (a .listed), a .head)
+        head = λ {u} {v} {w} a. omega (arith, g .inside (a .place) (a .listed), a .head);
       }
 
   pub road-lighter : Sound L starts heads weights → Lighter (road starts heads weights) (L .weight)

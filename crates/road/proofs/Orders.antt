@@ -45,7 +45,7 @@ mark-none n order =
       nodes = λ j h. omega arith;
       apart = λ j k h l e. omega arith;
       marked = λ j h e. omega arith;
-      met = λ v h. absurd (h (zeros-at 4096 v))
+      met = λ v h. absurd (h (zeros-at 4096 v));
     }
 
 module _ (n : ℕ) (order : List ℕ) (i : ℕ) (seen : List ℕ) (m : Marked n order i seen) (node : getD order i 0 < n) (small : n ≤ 4096) where
@@ -69,7 +69,7 @@ module _ (n : ℕ) (order : List ℕ) (i : ℕ) (seen : List ℕ) (m : Marked n 
         nodes = below-more (λ (j : ℕ). getD order j 0 < n) i (m .nodes) node;
         apart = λ j k a b. by-last j k a (ℕ-discrete k i) b;
         marked = below-more (λ (j : ℕ). getD (set seen (getD order i 0) 1) (getD order j 0) 0 ≢ 0) i (λ j l. still-marked (getD order j 0) (m .marked j l)) here;
-        met = λ v z. by-node v (ℕ-discrete v (getD order i 0)) z
+        met = λ v z. by-node v (ℕ-discrete v (getD order i 0)) z;
       }
     where
       here : getD (set seen (getD order i 0) 1) (getD order i 0) 0 ≢ 0

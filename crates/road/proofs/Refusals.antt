@@ -36,8 +36,8 @@ first-or-none [] d = inr tt
 first-or-none (F ∷ Fs) d = by (d .0) (first-or-none Fs (d .1))
   where
     by :
-      ((r : Refusal) × F r) ⊎ ((s : Refusal) → F s → ⊥) → ((r : Refusal) × First Fs r) ⊎ None Fs →
-      ((r : Refusal) × First (F ∷ Fs) r) ⊎ None (F ∷ Fs)
+        ((r : Refusal) × F r) ⊎ ((s : Refusal) → F s → ⊥) → ((r : Refusal) × First Fs r) ⊎ None Fs →
+        ((r : Refusal) × First (F ∷ Fs) r) ⊎ None (F ∷ Fs)
     by (inl f) rest = inl (f .0, inl (f .1))
     by (inr n) (inl f) = inl (f .0, inr (n, f .1))
     by (inr n) (inr m) = inr (n, m)

@@ -36,7 +36,7 @@ module _ (starts heads weights : List ℕ) (tail p : ℕ) (g : Placed starts hea
         next = omega arith;
         before = record { from = omega arith; below = omega (arith, g .owned .below) };
         owned = g .owned;
-        falls = le
+        falls = le;
       }
 
   pub rises-after : getD starts tail 0 < p → getD heads (p - 1) 0 < getD heads p 0 → HeadFalls starts heads p → ⊥
@@ -64,12 +64,12 @@ module _ (L : Limits) (starts heads weights : List ℕ) where
     first-loop a f = inr (untold a, inl (told f))
 
     pub first-falls :
-      (HeadOutside starts heads p → ⊥) → (HeadIsTail starts heads p → ⊥) → HeadFalls starts heads p → First (arcFaults L starts heads weights p) Arcs
+        (HeadOutside starts heads p → ⊥) → (HeadIsTail starts heads p → ⊥) → HeadFalls starts heads p → First (arcFaults L starts heads weights p) Arcs
     first-falls a b f = inr (untold a, inr (untold b, inl (told f)))
 
     pub first-heavy :
-      (HeadOutside starts heads p → ⊥) → (HeadIsTail starts heads p → ⊥) → (HeadFalls starts heads p → ⊥) → TooHeavy L weights p →
-      First (arcFaults L starts heads weights p) Arcs
+        (HeadOutside starts heads p → ⊥) → (HeadIsTail starts heads p → ⊥) → (HeadFalls starts heads p → ⊥) → TooHeavy L weights p →
+        First (arcFaults L starts heads weights p) Arcs
     first-heavy a b c f = inr (untold a, inr (untold b, inr (untold c, inl (told f))))
 
   -- a row's places, one after the other

@@ -21,7 +21,7 @@ zero-more l₀ l i z h =
     record {
       front = ap (λ (k : List ℕ). set k i 0) (z .front) ∙ fill-more i 0 l₀ inside;
       within = omega arith;
-      long = length-set l i 0 ∙ z .long
+      long = length-set l i 0 ∙ z .long;
     }
 
 pub zero-all : (l₀ l : List ℕ) (i : ℕ) → Zeroed l₀ l i → length l ≤ i → l ≡ replicate (length l₀) 0

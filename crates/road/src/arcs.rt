@@ -1,8 +1,8 @@
 // Check 3: the arcs, by ascending place.
-use crate::counts::wide;
 use crate::Limits;
 use crate::Refusal;
 use crate::Verdict;
+use crate::counts::wide;
 ghost use Prim.Native.Nat.{_<_};
 ghost use Rattle.road.specs.Faults.{ArcFault, arcFaults, HeadFalls};
 ghost use Rattle.road.specs.Refusals.{Judged, Judges, Tells};
@@ -24,7 +24,14 @@ fn head_falls(starts: &[u32], heads: &[u32], weights: &[u32], tail: usize, p: us
 }
 
 // The faults of the arc at place p, one of tail's.
-fn check_arc(starts: &[u32], heads: &[u32], weights: &[u32], limits: Limits, tail: usize, p: usize) -> Verdict
+fn check_arc(
+    starts: &[u32],
+    heads: &[u32],
+    weights: &[u32],
+    limits: Limits,
+    tail: usize,
+    p: usize,
+) -> Verdict
     requires { ⌜ Placed (now starts) (now heads) (now weights) tail p ⌝ }
     ensures { λ r. ⌜ Judges (arcFaults limits (now (starts .entry)) (now (heads .entry)) (now (weights .entry)) p) r ⌝ }
 {

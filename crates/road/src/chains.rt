@@ -1,17 +1,17 @@
 // The checks in their order, each chain for any input.
+use crate::Limits;
+use crate::NodeCount;
+use crate::Verdict;
 use crate::arcs::check_arcs;
+use crate::bounds::check_k;
+use crate::bounds::road_limits;
 use crate::counts::node_count;
 use crate::drive::check_drive;
 use crate::lengths::check_set_size;
 use crate::lengths::check_sizes;
-use crate::bounds::check_k;
-use crate::bounds::road_limits;
 use crate::order::check_order;
 use crate::sets::check_set;
 use crate::starts::check_starts;
-use crate::Limits;
-use crate::NodeCount;
-use crate::Verdict;
 ghost use Rattle.road.specs.Chains.{coverFaults, roadAndSetFaults, loneSetFaults, driveFaults};
 ghost use Rattle.road.specs.Faults.{graphFaults};
 ghost use Rattle.road.specs.Refusals.{Judges};
@@ -32,7 +32,13 @@ pub fn check_graph(starts: &[u32], heads: &[u32], weights: &[u32], limits: Limit
 }
 
 // What the cover call checks before its lengths: 1 2 3 4 5.
-pub fn check_cover_input(starts: &[u32], heads: &[u32], weights: &[u32], k: NodeCount, order: &[u32]) -> Verdict
+pub fn check_cover_input(
+    starts: &[u32],
+    heads: &[u32],
+    weights: &[u32],
+    k: NodeCount,
+    order: &[u32],
+) -> Verdict
     ensures { λ r. ⌜ Judges (coverFaults (now (starts .entry)) (now (heads .entry)) (now (weights .entry)) (k .0) (now (order .entry))) r ⌝ }
 {
     let graph = check_graph(starts, heads, weights, road_limits());
@@ -69,7 +75,13 @@ pub fn check_lone_set(set: &[u8]) -> Verdict
 }
 
 // What the thinning call checks before its lengths: 1 2 3 6 10.
-pub fn check_drive_input(starts: &[u32], heads: &[u32], weights: &[u32], set: &[u8], drive: &[u32]) -> Verdict
+pub fn check_drive_input(
+    starts: &[u32],
+    heads: &[u32],
+    weights: &[u32],
+    set: &[u8],
+    drive: &[u32],
+) -> Verdict
     ensures { λ r. ⌜ Judges (driveFaults (now (starts .entry)) (now (heads .entry)) (now (weights .entry)) (now (set .entry)) (now (drive .entry))) r ⌝ }
 {
     let first = check_road_and_set(starts, heads, weights, set);

@@ -1,7 +1,7 @@
 // Check 10: the drive.
-use crate::counts::wide;
 use crate::Refusal;
 use crate::Verdict;
+use crate::counts::wide;
 ghost use Prim.Native.Nat.{_<_};
 ghost use lib.ListN.{length};
 ghost use Rattle.road.specs.Drives.{driveFault, Joined, Entered, Judges-position};

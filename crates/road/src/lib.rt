@@ -3,17 +3,20 @@
 // A graph is three slices: n + 1 starts, m heads, m weights. A check looks at what it is lent and
 // changes nothing; it may ask that the checks before it passed. The chains take any input.
 mod arcs;
+mod bounds;
 mod chains;
 mod counts;
 mod drive;
 mod lengths;
-mod bounds;
 mod order;
 mod sets;
 mod starts;
-mod turn;
+mod turning;
 
 pub use arcs::check_arcs;
+pub use bounds::check_k;
+pub use bounds::overlay_limits;
+pub use bounds::road_limits;
 pub use chains::check_cover_input;
 pub use chains::check_drive_input;
 pub use chains::check_graph;
@@ -28,15 +31,13 @@ pub use drive::joined;
 pub use lengths::check_length;
 pub use lengths::check_set_size;
 pub use lengths::check_sizes;
-pub use bounds::check_k;
-pub use bounds::overlay_limits;
-pub use bounds::road_limits;
 pub use order::check_order;
 pub use sets::check_in_set;
 pub use sets::check_nodes;
 pub use sets::check_set;
 pub use starts::check_starts;
-pub use turn::clear;
+pub use turning::clear;
+pub use turning::turn;
 
 // A count of nodes.
 pub struct NodeCount(pub usize);

@@ -1,8 +1,8 @@
 // Check 5: the order.
-use crate::counts::wide;
 use crate::NodeCount;
 use crate::Refusal;
 use crate::Verdict;
+use crate::counts::wide;
 ghost use Prim.Native.Nat.{_≤_};
 ghost use Rattle.road.specs.Faults.{orderFault};
 ghost use Rattle.road.specs.Limits.{mostNodes};

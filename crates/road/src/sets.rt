@@ -1,8 +1,8 @@
 // Checks 6, 8 and 9: the set and a question's two nodes.
-use crate::counts::wide;
 use crate::NodeCount;
 use crate::Refusal;
 use crate::Verdict;
+use crate::counts::wide;
 ghost use Prim.Native.Nat.{_<_};
 ghost use lib.ListN.{length};
 ghost use Rattle.road.specs.Faults.{setFault, nodeFault, outsideFault};

@@ -1,7 +1,7 @@
 // Check 2: the starts.
-use crate::counts::wide;
 use crate::Refusal;
 use crate::Verdict;
+use crate::counts::wide;
 ghost use Prim.Native.Nat.{_≤_};
 ghost use lib.ListN.{length};
 ghost use Rattle.road.specs.Faults.{startsFault};
