@@ -8,3 +8,4 @@ pub mod Orders
 pub mod Zeros
 pub mod Counting
 pub mod Turns
+pub mod Verdicts

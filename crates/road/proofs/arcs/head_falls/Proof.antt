@@ -33,10 +33,10 @@ shared-slice-read-if2-2 : tie.Need-shared-slice-read-if2-2
 shared-slice-read-if2-2 c = search needs
 
 returns-2 : tie.Need-returns-2
-returns-2 c = tells-yes (falls-after _ _ _ _ _ (c .before .before .before .before .before .before .before .before .before .pre) (omega arith) (c .if2 .taken))
+returns-2 c = tells-yes (falls-after _ _ _ _ _ (c .before .before .before .before .before .before .before .before .before .pre) (omega arith) (omega arith))
 
 returns-3 : tie.Need-returns-3
-returns-3 c = tells-no (rises-after _ _ _ _ _ (c .before .before .before .before .before .before .before .before .before .pre) (omega arith) (c .if2 .left))
+returns-3 c = tells-no (rises-after _ _ _ _ _ (c .before .before .before .before .before .before .before .before .before .pre) (omega arith) (omega arith))
 
 pub head-falls-spec : {M : Type 1} → statement M
 head-falls-spec =

@@ -19,7 +19,7 @@ returns : tie.Need-returns Inv-loop μ-loop
 returns c = refuses (none (c .if1 .taken))
 
 returns-2 : tie.Need-returns-2 Inv-loop μ-loop
-returns-2 c = refuses (many (c .if2 .taken))
+returns-2 c = refuses (many (omega arith))
 
 loop-holds : tie.Need-loop-holds Inv-loop μ-loop
 loop-holds c = entered-none _ _ _
@@ -46,7 +46,7 @@ loop-again : tie.Need-loop-again Inv-loop μ-loop
 loop-again c = rw (c .enum-told .given .1) at (c .before .before .check-position .ensures)
 
 returns-4 : tie.Need-returns-4 Inv-loop μ-loop
-returns-4 c = passes (drive-clear _ _ _ (c .before .before .before .if1 .left) (c .before .before .if2 .left) _ (c .loop-test .left) (c .before .loop .inv))
+returns-4 c = passes (drive-clear _ _ _ (c .before .before .before .if1 .left) (omega arith) _ (c .loop-test .left) (c .before .loop .inv))
 
 pub check-drive-spec : {M : Type 1} → statement M
 check-drive-spec =

@@ -1,3 +1,4 @@
+use native.Mathlib.Omega.{arith}
 use Rattle.road.proofs.Refusals.{refuses, passes}
 use Rattle.road.specs.Faults.{few-starts, many-starts, unlike, many-heads}
 use Rattle.road.proofs.Faults.{sizes-clear}
@@ -9,7 +10,7 @@ returns : tie.Need-returns
 returns c = refuses (few-starts (c .if1 .taken))
 
 returns-2 : tie.Need-returns-2
-returns-2 c = refuses (many-starts (c .if2 .taken))
+returns-2 c = refuses (many-starts (omega arith))
 
 returns-3 : tie.Need-returns-3
 returns-3 c = refuses (unlike (c .if3 .taken))
