@@ -1,0 +1,17 @@
+// The cover: pruning, and the search that it rests on.
+mod search;
+mod under_trial;
+
+use road::NodeCount;
+
+// The path under trial: at most 32 nodes, in the order in which they were met.
+pub struct Trail {
+    pub nodes: [u32; 32],
+    pub count: NodeCount,
+}
+
+// The path with one node more, or that it is full.
+pub struct Pushed {
+    pub full: bool,
+    pub trail: Trail,
+}
