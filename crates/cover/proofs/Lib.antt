@@ -2,5 +2,5 @@
 pub mod Trails
 pub mod Searching
 pub mod Completing
-pub mod Pruning
+pub mod Rules
 pub mod Outcomes

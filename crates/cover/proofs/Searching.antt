@@ -7,13 +7,17 @@ use Prim.Native.Nat.{ℕ, suc, _+_, _-_, _≤_, _<_}
 use native.Mathlib.Omega.{arith}
 use borrow.Author.Count.{below-more}
 use lib.ListN.{length, getD}
-use Rattle.paths.specs.Lists.{Mem}
+use Rattle.paths.specs.Lists.{Mem, Each}
+use Rattle.paths.proofs.Lists.{each-mem, mem-at}
 use Rattle.road.specs.Drives.{Joined}
 use Rattle.road.specs.Refusals.{Tells}
-use Rattle.road.specs.Roads.{Owns, Rising}
+use Rattle.road.specs.declared.Limits.{Limits}
+use Rattle.road.specs.Limits.{overlayLimits}
+use Rattle.road.specs.Roads.{nodesOf, Owns, Rising, Sound}
 use Rattle.road.proofs.Rows.{owned-listed}
 use Rattle.cover.specs.Rule.{Dropped}
 use Rattle.cover.specs.Search.{Completes, ends, longer, FreeNode, Searchable}
+use Rattle.cover.specs.Steps.{Prunable}
 
 -- one way to complete the path, taken apart
 record Longer (Next : ℕ → ℕ → Type 0) (Free : ℕ → Type 0) (End : List ℕ → ℕ → Type 0) (on : List ℕ) (a m : ℕ) : Type 0 where
@@ -105,3 +109,25 @@ carried R {b} on e f t = subst₂ (λ (l : List ℕ) (x : ℕ). Tells b (R l x))
 -- the places tried, where the row ends
 pub tried-to : (End : List ℕ → ℕ → Type 0) (starts heads cover on : List ℕ) (m k i j : ℕ) → i ≡ j → Tried End starts heads cover on m k i → Tried End starts heads cover on m k j
 tried-to End starts heads cover on m k i j e t = subst (λ (x : ℕ). Tried End starts heads cover on m k x) e t
+
+-- a well-formed graph can be searched
+pub searchable : (L : Limits) (starts heads weights : List ℕ) (n : ℕ) → Sound L starts heads weights → n ≡ nodesOf starts → Searchable starts heads n
+searchable L starts heads weights n g e =
+    record { long = omega (arith, g .sized .least); rising = g .rising; inside = λ p h. omega (arith, g .inside p h) }
+
+module _ (starts heads weights starts′ heads′ weights′ cover : List ℕ) (g : Prunable starts heads weights starts′ heads′ weights′ cover) where
+  pub search-forth : Searchable starts heads (length cover)
+  search-forth = searchable overlayLimits starts heads weights (length cover) (g .sound) (g .bytes)
+
+  pub search-back : Searchable starts′ heads′ (length cover)
+  search-back = searchable overlayLimits starts′ heads′ weights′ (length cover) (g .turned .sound overlayLimits (g .sound)) (omega (arith, g .bytes, g .as-long))
+
+-- the bytes change and stay as many
+pub prunable-still :
+  (starts heads weights starts′ heads′ weights′ cover after : List ℕ) → Prunable starts heads weights starts′ heads′ weights′ cover → length after ≡ length cover →
+  Prunable starts heads weights starts′ heads′ weights′ after
+prunable-still starts heads weights starts′ heads′ weights′ cover after g e =
+    record { sound = g .sound; turned = g .turned; as-long = g .as-long; bytes = e ∙ g .bytes }
+
+pub node-at : (order cover after : List ℕ) (i : ℕ) → Each (λ (v : ℕ). v < length cover) order → length after ≡ length cover → i < length order → getD order i 0 < length after
+node-at order cover after i f e h = omega (arith, each-mem (λ (v : ℕ). v < length cover) (getD order i 0) order f (mem-at order i h))

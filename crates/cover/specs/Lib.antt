@@ -3,4 +3,5 @@ pub mod Rule
 pub mod Promise
 pub mod Trails
 pub mod Search
+pub mod Steps
 pub mod Calls

@@ -1,8 +1,11 @@
 // The cover: pruning, and the search that it rests on.
+mod calls;
+mod pruning;
 mod search;
 mod under_trial;
 
 use road::NodeCount;
+use road::Refusal;
 
 // The path under trial: at most 32 nodes, in the order in which they were met.
 pub struct Trail {
@@ -14,4 +17,10 @@ pub struct Trail {
 pub struct Pushed {
     pub full: bool,
     pub trail: Trail,
+}
+
+// What the cover call says. `saidOf` in specs/ gives each its number and values.
+pub enum CoverAnswer {
+    Covered(NodeCount),
+    Refused(Refusal),
 }

@@ -53,7 +53,7 @@ fn outward(starts: &[u32], heads: &[u32], cover: &[u8], t: Trail, last: usize, m
 
 // At the inward end, over the graph turned round, and where that leads no further at the outward
 // end.
-fn inward(
+pub fn inward(
     starts: &[u32],
     heads: &[u32],
     starts_back: &[u32],

@@ -1,7 +1,7 @@
 -- Laws of lists of nodes: membership, differing nodes, and how many different nodes there can be.
 use mathlib.Core.Path.{_≡_, refl, sym, ap, subst, _∙_}
 use mathlib.Core.Logic.{_⊎_, inl, inr, ⊎-elim, _≢_}
-use mathlib.Core.List.{List, [], _∷_, _++_}
+use mathlib.Core.List.{List, [], _∷_, _++_, reverseAux}
 use Prim.Native.Nat.{ℕ, zero, suc, _+_, _≤_, _<_}
 use native.Mathlib.Decide.{ℕ-discrete}
 use native.Mathlib.Omega.{arith}
@@ -57,6 +57,28 @@ different-front (x ∷ l) m d = ((λ h. d .0 (mem-left x l m h)), different-fron
 pub different-back : (l m : List ℕ) → Different (l ++ m) → Different m
 different-back [] m d = d
 different-back (x ∷ l) m d = different-back l m (d .1)
+
+-- no node stands in both parts of a list of different nodes
+pub parts-apart : (a : ℕ) (l m : List ℕ) → Different (l ++ m) → Mem a l → Mem a m → ⊥
+parts-apart a (x ∷ l) m d (inl e) h = d .0 (subst (λ (y : ℕ). Mem y (l ++ m)) e (mem-right a l m h))
+parts-apart a (x ∷ l) m d (inr g) h = parts-apart a l m (d .1) g h
+
+-- a list turned round onto another has the nodes of both
+pub mem-onto : (a : ℕ) (l m : List ℕ) → Mem a l ⊎ Mem a m → Mem a (reverseAux l m)
+mem-onto a [] m (inl h) = absurd h
+mem-onto a [] m (inr h) = h
+mem-onto a (x ∷ l) m (inl (inl e)) = mem-onto a l (x ∷ m) (inr (inl e))
+mem-onto a (x ∷ l) m (inl (inr h)) = mem-onto a l (x ∷ m) (inl h)
+mem-onto a (x ∷ l) m (inr h) = mem-onto a l (x ∷ m) (inr (inr h))
+
+pub onto-mem : (a : ℕ) (l m : List ℕ) → Mem a (reverseAux l m) → Mem a l ⊎ Mem a m
+onto-mem a [] m h = inr h
+onto-mem a (x ∷ l) m h = by (onto-mem a l (x ∷ m) h)
+  where
+    by : Mem a l ⊎ Mem a (x ∷ m) → Mem a (x ∷ l) ⊎ Mem a m
+    by (inl g) = inl (inr g)
+    by (inr (inl e)) = inl (inl e)
+    by (inr (inr g)) = inr g
 
 pub inside-tail : (P : ℕ → Type 0) (x : ℕ) (l : List ℕ) → Inside P (x ∷ l) → Inside P l
 inside-tail P x [] h = tt

@@ -10,7 +10,7 @@ use Rattle.paths.proofs.Lists.{inside-tail}
 use Rattle.paths.proofs.Ways.{weighing, end-node}
 
 -- different lists with no node in common, one turned round onto the other
-different-onto : (l m : List ℕ) → Different l → Different m → ((a : ℕ) → Mem a l → Mem a m → ⊥) → Different (reverseAux l m)
+pub different-onto : (l m : List ℕ) → Different l → Different m → ((a : ℕ) → Mem a l → Mem a m → ⊥) → Different (reverseAux l m)
 different-onto [] m d e n = e
 different-onto (x ∷ l) m d e n = different-onto l (x ∷ m) (d .1) (n x (inl refl), e) apart
   where
@@ -31,7 +31,7 @@ pub record Back (G : Graph) (a : ℕ) (l m : List ℕ) (b c w : ℕ) : Type 0 wh
   pub along : Along (turned G) b after c w
 
 module _ {G : Graph} where
-  back-onto : {a : ℕ} {l : List ℕ} {b w : ℕ} (m : List ℕ) (c d : ℕ) → Along G a l b w → Along (turned G) a m c d → Back G a l m b c (w + d)
+  pub back-onto : {a : ℕ} {l : List ℕ} {b w : ℕ} (m : List ℕ) (c d : ℕ) → Along G a l b w → Along (turned G) a m c d → Back G a l m b c (w + d)
   back-onto m c d stop q = record { after = m; list = refl; along = weighing (omega arith) q }
   back-onto m c d (step {a = a} {x = x} {b = b} {w = w} {d = e} {l = l} s r) q = again (back-onto (a ∷ m) c (w + d) r (step s q))
     where

@@ -10,10 +10,10 @@ use Rattle.paths.specs.Graphs.{Proper, Lighter}
 use Rattle.road.specs.declared.Limits.{Limits}
 use Rattle.road.specs.declared.Refusal.{Refusal}
 use Rattle.road.specs.declared.Refusal.the-variants.{Sizes, Starts, Arcs}
-use Rattle.road.specs.Limits.{mostNodes, mostK}
+use Rattle.road.specs.Limits.{mostNodes, mostK, roadLimits, overlayLimits}
 use Rattle.road.specs.Refusals.{Fault, Single, Singles, Of, None, First}
 use Rattle.road.specs.Roads.{nodesOf, Owns, Arc, road, Sized, Rising, Listed, Sorted, Sound}
-use Rattle.road.specs.Faults.{BadSizes, few-starts, many-starts, unlike, many-heads, many-weights, BadStarts, first, falls, last, startsFault, HeadOutside, HeadIsTail, HeadFalls, TooHeavy, arcFaults, ArcFault, graphFaults, BadSetSize, empty, many, BadK, NoNode, InSet, NotInSet, BadSet}
+use Rattle.road.specs.Faults.{BadSizes, few-starts, many-starts, unlike, many-heads, many-weights, BadStarts, first, falls, last, startsFault, HeadOutside, HeadIsTail, HeadFalls, TooHeavy, arcFaults, ArcFault, graphFaults, BadSetSize, empty, many, BadK, NoNode, InSet, NotInSet, BadSet, Unlike}
 use Rattle.road.proofs.Refusals.{of-single, first-one, first-not-none, none-if-no-first, untold, unheld}
 use Rattle.road.proofs.Rows.{owner-node, owned-listed}
 
@@ -31,6 +31,15 @@ same-by (no h) n = absurd (n h)
 
 pub not-unlike : (a b : ℕ) → (a ≢ b → ⊥) → a ≡ b
 not-unlike a b n = same-by (ℕ-discrete a b) n
+
+-- all lengths are as asked
+abbrev pub Alike : List (ℕ × ℕ) → Type 0
+Alike [] = Unit {0}
+Alike (p ∷ l) = (p .0 ≡ p .1) × Alike l
+
+pub alike-of : (pairs : List (ℕ × ℕ)) → (Unlike pairs → ⊥) → Alike pairs
+alike-of [] n = tt
+alike-of (p ∷ l) n = (not-unlike (p .0) (p .1) (λ d. n (inl d)), alike-of l (λ u. n (inr u)))
 
 pub set-size-clear : (bytes : List ℕ) → length bytes ≢ 0 → length bytes ≤ mostNodes → BadSetSize bytes → ⊥
 set-size-clear bytes a b (empty h) = a h
@@ -184,3 +193,15 @@ module _ (L : Limits) (starts heads weights : List ℕ) where
 
   pub sorted-of : Sound L starts heads weights → Sorted starts heads
   sorted-of g = record { least = g .sized .least; rising = g .rising; ascends = g .ascends }
+
+-- what the road's limits allow the overlay's allow
+pub sound-wider : (starts heads weights : List ℕ) → Sound roadLimits starts heads weights → Sound overlayLimits starts heads weights
+sound-wider starts heads weights g =
+    record {
+      sized = record { least = g .sized .least; most = g .sized .most; alike = g .sized .alike; few = omega (arith, g .sized .few) };
+      rising = g .rising;
+      inside = g .inside;
+      unlooped = g .unlooped;
+      ascends = g .ascends;
+      light = λ p h. omega (arith, g .light p h)
+    }

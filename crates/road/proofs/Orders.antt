@@ -9,8 +9,9 @@ use borrow.Author.Count.{below-more}
 use lib.ListN.{length, getD, set, replicate, length-set, length-replicate}
 use lib.Seq.{getD-set-same, getD-set-other}
 use Rattle.paths.specs.Lists.{Mem, Different, Each}
-use Rattle.paths.proofs.Lists.{mem-at, place-of, each-mem, mem-each, few, many, full}
+use Rattle.paths.proofs.Lists.{mem?, mem-at, place-of, each-mem, mem-each, few, many, full}
 use Rattle.road.specs.Faults.{Permutation}
+use Rattle.road.proofs.Faults.{not-over}
 use Rattle.road.proofs.Zeros.{zeros-at}
 
 -- different places of different nodes
@@ -104,3 +105,20 @@ module _ (n : ℕ) (order : List ℕ) where
     where
       node : (v : ℕ) → Mem v order → v < n
       node v s = let p = place-of v order s in omega (arith, m .nodes (p .0) (omega (arith, p .1)), p .2)
+
+different-stable : (l : List ℕ) → ((Different l → ⊥) → ⊥) → Different l
+different-stable [] f = tt
+different-stable (x ∷ l) f = ((λ h. f (λ d. d .0 h)), different-stable l (λ g. f (λ d. g (d .1))))
+
+-- an order that is not refused is a permutation
+pub permuted : (n : ℕ) (order : List ℕ) → ((Permutation n order → ⊥) → ⊥) → Permutation n order
+permuted n order f =
+    record {
+      all = λ v h. by v h (mem? v order);
+      once = different-stable order (λ g. f (λ p. g (p .once)));
+      only = mem-each (λ (v : ℕ). v < n) order (λ v h. not-over (suc v) n (λ l. f (λ p. omega (arith, each-mem (λ (x : ℕ). x < n) v order (p .only) h))))
+    }
+  where
+    by : (v : ℕ) → v < n → Mem v order ⊎ (Mem v order → ⊥) → Mem v order
+    by v h (inl m) = m
+    by v h (inr g) = absurd (f (λ p. g (p .all v h)))

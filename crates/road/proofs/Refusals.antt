@@ -1,14 +1,15 @@
 -- The first fault of a list: at most one is first, and either one is first or none holds.
 use mathlib.Core.Path.{_≡_, refl, ap, sym, subst, _∙_}
 use mathlib.Core.Bool.{true, false}
-use mathlib.Core.Logic.{_⊎_, inl, inr}
+use mathlib.Core.Logic.{_⊎_, inl, inr, _≢_}
 use mathlib.Core.List.{List, [], _∷_, _++_}
 use Prim.Native.Nat.{ℕ}
 use native.Mathlib.Omega.{arith}
 use Rattle.road.specs.declared.Refusal.{Refusal}
+use Rattle.road.specs.declared.Refusal.the-variants.{Sizes, Starts, Arcs, K, Order, Set, Overlay, Node, Outside, Drive, Lengths, Room, Line}
 use Rattle.road.specs.declared.Verdict.{Verdict}
 use Rattle.road.specs.declared.Verdict.the-variants.{Passed, Refused}
-use Rattle.road.specs.Refusals.{Fault, Single, Singles, Decided, Of, None, First, Judged, Judges, Tells}
+use Rattle.road.specs.Refusals.{numberOf, Fault, Single, Singles, Decided, Of, None, First, Judged, Judges, Tells}
 
 pub of-single : {r : Refusal} {P : Type 0} → Single (Of r P)
 of-single = record { one = λ s t f g. f .is ∙ sym (g .is) }
@@ -41,6 +42,22 @@ first-or-none (F ∷ Fs) d = by (d .0) (first-or-none Fs (d .1))
     by (inl f) rest = inl (f .0, inl (f .1))
     by (inr n) (inl f) = inl (f .0, inr (n, f .1))
     by (inr n) (inr m) = inr (n, m)
+
+-- no refusal has the number of an answer
+pub number-some : (r : Refusal) → numberOf r ≢ 0
+number-some Sizes e = omega arith
+number-some Starts e = omega arith
+number-some Arcs e = omega arith
+number-some K e = omega arith
+number-some Order e = omega arith
+number-some Set e = omega arith
+number-some Overlay e = omega arith
+number-some Node e = omega arith
+number-some Outside e = omega arith
+number-some Drive e = omega arith
+number-some Lengths e = omega arith
+number-some Room e = omega arith
+number-some Line e = omega arith
 
 -- a verdict is passed or refused, and not both
 pub not-both : {v : Verdict} {r : Refusal} → v ≡ Passed → v ≡ Refused r → ⊥

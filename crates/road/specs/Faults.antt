@@ -1,6 +1,6 @@
 -- The faults of document 01's table, one definition each. The numbers of their refusals are `numberOf`'s.
 use mathlib.Core.Path.{_≡_}
-use mathlib.Core.Logic.{_≢_}
+use mathlib.Core.Logic.{_⊎_, _≢_}
 use mathlib.Core.List.{List, [], _∷_}
 use Prim.Native.Nat.{ℕ, _+_, _≤_, _<_}
 use lib.ListN.{length, getD}
@@ -129,3 +129,11 @@ outsideFault bytes s t = Of Outside (NotInSet bytes s t)
 -- 11: a slice of a length other than asked
 abbrev pub lengthFault : ℕ → ℕ → Fault
 lengthFault given asked = Of Lengths (given ≢ asked)
+
+-- the same of several slices: some length is not the one asked. Each pair is a length and what is asked.
+abbrev pub Unlike : List (ℕ × ℕ) → Type 0
+Unlike [] = ⊥
+Unlike (p ∷ l) = (p .0 ≢ p .1) ⊎ Unlike l
+
+abbrev pub lengthsFault : List (ℕ × ℕ) → Fault
+lengthsFault pairs = Of Lengths (Unlike pairs)

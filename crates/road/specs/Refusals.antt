@@ -25,6 +25,17 @@ numberOf Lengths = 11
 numberOf Room = 12
 numberOf Line = 13
 
+-- what a call says: the number 0 and its values, or a refusal's number alone
+pub record Said : Type 0 where
+  pub number : ℕ
+  pub values : List ℕ
+
+abbrev pub refusal : Refusal → Said
+refusal r = record { number = numberOf r; values = [] }
+
+abbrev pub answer : List ℕ → Said
+answer values = record { number = 0; values = values }
+
 -- a fault says of which refusal it holds
 abbrev pub Fault : Type 1
 Fault = Refusal → Type 0

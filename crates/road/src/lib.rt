@@ -7,6 +7,7 @@ mod bounds;
 mod chains;
 mod counts;
 mod drive;
+mod filling;
 mod lengths;
 mod order;
 mod sets;
@@ -28,6 +29,8 @@ pub use counts::number;
 pub use counts::wide;
 pub use drive::check_drive;
 pub use drive::joined;
+pub use filling::clear;
+pub use filling::fill_bytes;
 pub use lengths::check_length;
 pub use lengths::check_set_size;
 pub use lengths::check_sizes;
@@ -36,7 +39,6 @@ pub use sets::check_in_set;
 pub use sets::check_nodes;
 pub use sets::check_set;
 pub use starts::check_starts;
-pub use turning::clear;
 pub use turning::turn;
 
 // A count of nodes.

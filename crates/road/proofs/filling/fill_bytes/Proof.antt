@@ -1,22 +1,19 @@
-use Rattle.road.proofs.Zeros.{Zeroed, zero-none, zero-more, zero-all}
+use Rattle.road.proofs.Zeros.{Spread, spread-none, spread-more, spread-all}
 use lib.ListN.{length}
 use native.Mathlib.Omega.{arith}
 use Prim.Native.Nat.{_-_}
 use borrow.Author.Needs.{needs}
-use Rattle.road.proofs.turning.clear.Statement.{statement}
-use Rattle.road.proofs.turning.clear.Tie as tie
+use Rattle.road.proofs.filling.fill_bytes.Statement.{statement}
+use Rattle.road.proofs.filling.fill_bytes.Tie as tie
 
 abbrev Inv-loop : tie.InvT-loop
-Inv-loop s₀ i₀ s i = Zeroed s₀ s i
+Inv-loop s₀ value i₀ s i = Spread value s₀ s i
 
 abbrev μ-loop : tie.MeasureT-loop
-μ-loop s₀ i₀ s i = length s₀ - i
+μ-loop s₀ value i₀ s i = length s₀ - i
 
 loop-holds : tie.Need-loop-holds Inv-loop μ-loop
-loop-holds c = zero-none _
-
-mul-s : tie.Need-mul-s Inv-loop μ-loop
-mul-s c = search needs
+loop-holds c = spread-none _ _
 
 slice-write-s : tie.Need-slice-write-s Inv-loop μ-loop
 slice-write-s c = omega arith
@@ -28,22 +25,21 @@ loop-less : tie.Need-loop-less Inv-loop μ-loop
 loop-less c = omega arith
 
 loop-again : tie.Need-loop-again Inv-loop μ-loop
-loop-again c = zero-more _ _ _ (c .before .loop .inv) (c .loop-test .taken)
+loop-again c = spread-more _ _ _ _ (c .before .loop .inv) (c .loop-test .taken)
 
 same-length : tie.Need-same-length Inv-loop μ-loop
 same-length c = c .before .loop .inv .long
 
 returns : tie.Need-returns Inv-loop μ-loop
-returns c = zero-all _ _ _ (c .before .loop .inv) (c .loop-test .left)
+returns c = spread-all _ _ _ _ (c .before .loop .inv) (c .loop-test .left)
 
-pub clear-spec : {M : Type 1} → statement M
-clear-spec =
+pub fill-bytes-spec : {M : Type 1} → statement M
+fill-bytes-spec =
     tie.close
     (tie.spec
     Inv-loop
     μ-loop
     loop-holds
-    mul-s
     slice-write-s
     add-i
     loop-less

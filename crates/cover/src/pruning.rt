@@ -1,0 +1,81 @@
+// Pruning: the nodes are taken in the order lent, and each is dropped exactly if it is not needed.
+// The weights are lent so that the contracts can name the graph; no answer depends on them.
+use crate::Trail;
+use crate::search::inward;
+use road::NodeCount;
+use road::wide;
+ghost use Prim.Native.Nat.{_≤_, _<_};
+ghost use lib.ListN.{length};
+ghost use Rattle.paths.specs.Lists.{Each};
+ghost use Rattle.road.specs.Refusals.{Tells};
+ghost use Rattle.road.specs.Roads.{road};
+ghost use Rattle.cover.specs.Rule.{Needed, PathOf, Prunes};
+ghost use Rattle.cover.specs.Steps.{OfK, Prunable, Took};
+
+// Whether v cannot be dropped.
+fn is_needed(
+    starts: &[u32],
+    heads: &[u32],
+    weights: &[u32],
+    starts_back: &[u32],
+    heads_back: &[u32],
+    weights_back: &[u32],
+    k: NodeCount,
+    cover: &[u8],
+    v: u32,
+) -> bool
+    requires { ⌜ Prunable (now starts) (now heads) (now weights) (now «starts_back») (now «heads_back») (now «weights_back») (now cover) ⌝ }
+    requires { ⌜ OfK (k .0) ⌝ }
+    requires { ⌜ v < length (now cover) ⌝ }
+    ensures { λ r. ⌜ Tells r (Needed (PathOf (road (now (starts .entry)) (now (heads .entry)) (now (weights .entry))) (k .0)) (now (cover .entry)) v) ⌝ }
+{
+    let trail = Trail::of(v);
+    inward(starts, heads, starts_back, heads_back, cover, trail, wide(v), wide(v), NodeCount(k.0 - 1))
+}
+
+// Takes one node.
+fn take_node(
+    starts: &[u32],
+    heads: &[u32],
+    weights: &[u32],
+    starts_back: &[u32],
+    heads_back: &[u32],
+    weights_back: &[u32],
+    k: NodeCount,
+    cover: &mut [u8],
+    v: u32,
+)
+    requires { ⌜ Prunable (now starts) (now heads) (now weights) (now «starts_back») (now «heads_back») (now «weights_back») (now cover) ⌝ }
+    requires { ⌜ OfK (k .0) ⌝ }
+    requires { ⌜ v < length (now cover) ⌝ }
+    ensures { λ _. ⌜ Took (PathOf (road (now (starts .entry)) (now (heads .entry)) (now (weights .entry))) (k .0)) v (now (cover .entry)) (now (cover .exit)) ⌝ }
+{
+    if is_needed(starts, heads, weights, starts_back, heads_back, weights_back, k, cover, v) {
+        return;
+    }
+    cover[wide(v)] = 0;
+}
+
+// Takes the nodes one by one.
+pub fn prune(
+    starts: &[u32],
+    heads: &[u32],
+    weights: &[u32],
+    starts_back: &[u32],
+    heads_back: &[u32],
+    weights_back: &[u32],
+    k: NodeCount,
+    order: &[u32],
+    cover: &mut [u8],
+)
+    requires { ⌜ Prunable (now starts) (now heads) (now weights) (now «starts_back») (now «heads_back») (now «weights_back») (now cover) ⌝ }
+    requires { ⌜ OfK (k .0) ⌝ }
+    requires { ⌜ Each (λ v. v < length (now cover)) (now order) ⌝ }
+    ensures { λ _. ⌜ Prunes (PathOf (road (now (starts .entry)) (now (heads .entry)) (now (weights .entry))) (k .0)) (now (order .entry)) (now (cover .entry)) (now (cover .exit)) ⌝ }
+{
+    let mut i = 0;
+    while i < order.len() {
+        take_node(starts, heads, weights, starts_back, heads_back, weights_back, k, cover, order[i]);
+        i += 1;
+    }
+}
