@@ -46,7 +46,7 @@ module _ {Next : ℕ → ℕ → Type 0} {Free : ℕ → Type 0} {End : List ℕ
         different = tt;
         new = λ x h. absurd h;
         long = omega arith;
-        end = subst (λ (l : List ℕ). End l m) (sym (append-nil on)) e
+        end = subst (λ (l : List ℕ). End l m) (sym (append-nil on)) e;
       }
   runs (longer {on = on} {a = a} {m = m} x n f w c) = more (runs c)
     where
@@ -60,12 +60,12 @@ module _ {Next : ℕ → ℕ → Type 0} {Free : ℕ → Type 0} {End : List ℕ
             different = ((λ h. r .new x h (mem-right x on (x ∷ []) (inl refl))), r .different);
             new = λ y h g. ⊎-elim (λ e. w (subst (λ (z : ℕ). Mem z on) e g)) (λ k. r .new y k (mem-left y on (x ∷ []) g)) h;
             long = omega (arith, r .long);
-            end = subst (λ (l : List ℕ). End l (r .left)) (append-assoc on (x ∷ []) (r .after)) (r .end)
+            end = subst (λ (l : List ℕ). End l (r .left)) (append-assoc on (x ∷ []) (r .after)) (r .end);
           }
 
   completes :
-    (on : List ℕ) (a : ℕ) (after : List ℕ) (left : ℕ) → Chain Next a after → Each Free after → Different after → ((x : ℕ) → Mem x after → Mem x on → ⊥) →
-    End (on ++ after) left → Completes Next Free End on a (length after + left)
+      (on : List ℕ) (a : ℕ) (after : List ℕ) (left : ℕ) → Chain Next a after → Each Free after → Different after → ((x : ℕ) → Mem x after → Mem x on → ⊥) →
+      End (on ++ after) left → Completes Next Free End on a (length after + left)
   completes on a [] left c f d n e =
       subst (Completes Next Free End on a) (omega arith) (ends (subst (λ (l : List ℕ). End l left) (append-nil on) e))
   completes on a (x ∷ after) left c f d n e =
@@ -96,7 +96,7 @@ way-chain G Next f stop = tt
 way-chain G Next f (step {a = a} {x = x} {w = w} s r) = (f a x w s, way-chain G Next f r)
 
 module _ (L : Limits) (starts heads weights starts′ heads′ weights′ : List ℕ) (g : Sound L starts heads weights)
-  (t : TurnedRound starts heads weights starts′ heads′ weights′) where
+    (t : TurnedRound starts heads weights starts′ heads′ weights′) where
   abbrev G : Graph
   G = road starts heads weights
 
@@ -138,15 +138,15 @@ module _ (L : Limits) (starts heads weights starts′ heads′ weights′ : List
                   different-before = ((λ h. r .new v h (inl refl)), r .different);
                   different-after = s .different;
                   apart = λ x h m. s .new x m h;
-                  long = omega (arith, r .long, s .long, s .end .none)
+                  long = omega (arith, r .long, s .long, s .end .none);
                 }
 
     inward-of : Both → Inward starts heads starts′ heads′ cover v (v ∷ []) v (k - 1)
     inward-of b =
         let out : Outward starts heads cover ((v ∷ []) ++ b .before) v (length (b .after) + 0) =
-              completes ((v ∷ []) ++ b .before) v (b .after) 0 (b .outward) (b .free-after) (b .different-after) (λ x h m. b .apart x m h) (record { none = refl }) in
+        completes ((v ∷ []) ++ b .before) v (b .after) 0 (b .outward) (b .free-after) (b .different-after) (λ x h m. b .apart x m h) (record { none = refl }) in
         let in′ : Inward starts heads starts′ heads′ cover v (v ∷ []) v (length (b .before) + (length (b .after) + 0)) =
-              completes (v ∷ []) v (b .before) (length (b .after) + 0) (b .inward) (b .free-before) (b .different-before .1) new (record { outward = out }) in
+        completes (v ∷ []) v (b .before) (length (b .after) + 0) (b .inward) (b .free-before) (b .different-before .1) new (record { outward = out }) in
         subst (Inward starts heads starts′ heads′ cover v (v ∷ []) v) (omega (arith, b .long)) in′
       where
         new : (x : ℕ) → Mem x (b .before) → Mem x (v ∷ []) → ⊥
@@ -157,8 +157,8 @@ module _ (L : Limits) (starts heads weights starts′ heads′ weights′ : List
     needed-of b = by (chain-way (turned (road starts heads weights)) (Joined starts′ heads′) back v (b .before) (b .inward)) (chain-way (road starts heads weights) (Joined starts heads) forth v (b .after) (b .outward))
       where
         by :
-          (e : ℕ) × (w : ℕ) × Along (turned (road starts heads weights)) v (b .before) e w → (e : ℕ) × (w : ℕ) × Along (road starts heads weights) v (b .after) e w →
-          Needed (PathOf (road starts heads weights) k) cover v
+            (e : ℕ) × (w : ℕ) × Along (turned (road starts heads weights)) v (b .before) e w → (e : ℕ) × (w : ℕ) × Along (road starts heads weights) v (b .after) e w →
+            Needed (PathOf (road starts heads weights) k) cover v
         by i o = of (back-onto {G = turned (road starts heads weights)} (b .after) (o .0) (o .1) (i .2) (o .2))
           where
             of : Back (turned (road starts heads weights)) v (b .before) (b .after) (i .0) (o .0) (i .1 + o .1) → Needed (PathOf (road starts heads weights) k) cover v
@@ -166,22 +166,22 @@ module _ (L : Limits) (starts heads weights starts′ heads′ weights′ : List
                 record {
                   path = i .0 ∷ p .after;
                   counts =
-                    record {
-                      first = i .0;
-                      after = p .after;
-                      last = o .0;
-                      weight = i .1 + o .1;
-                      whole = refl;
-                      path =
-                        record {
-                          node = end-node (turned-proper (road-proper L starts heads weights g)) node (i .2);
-                          along = p .along;
-                          different = subst Different (sym (p .list)) (different-onto (v ∷ b .before) (b .after) (b .different-before) (b .different-after) (b .apart))
-                        };
-                      nodes = ap length (p .list) ∙ length-reverseAux (v ∷ b .before) (b .after) ∙ omega (arith, b .long)
-                    };
+                      record {
+                        first = i .0;
+                        after = p .after;
+                        last = o .0;
+                        weight = i .1 + o .1;
+                        whole = refl;
+                        path =
+                            record {
+                              node = end-node (turned-proper (road-proper L starts heads weights g)) node (i .2);
+                              along = p .along;
+                              different = subst Different (sym (p .list)) (different-onto (v ∷ b .before) (b .after) (b .different-before) (b .different-after) (b .apart));
+                            };
+                        nodes = ap length (p .list) ∙ length-reverseAux (v ∷ b .before) (b .after) ∙ omega (arith, b .long);
+                      };
                   on = subst (Mem v) (sym (p .list)) (mem-onto v (v ∷ b .before) (b .after) (inl (inl refl)));
-                  others = λ x h n. free x n (onto-mem x (v ∷ b .before) (b .after) (subst (Mem x) (p .list) h))
+                  others = λ x h n. free x n (onto-mem x (v ∷ b .before) (b .after) (subst (Mem x) (p .list) h));
                 }
               where
                 free : (x : ℕ) → x ≢ v → Mem x (v ∷ b .before) ⊎ Mem x (b .after) → Dropped cover x
@@ -208,7 +208,7 @@ module _ (L : Limits) (starts heads weights starts′ heads′ weights′ : List
                   different-before = i .2 .different;
                   different-after = c .from .different .1;
                   apart = λ x h m. parts-apart x (d .counts .first ∷ c .at .front) (c .at .back) whole (front-of x h) m;
-                  long = omega (arith, ap length (i .1), length-reverse (d .counts .first ∷ c .at .front), ap length (c .at .whole), length-append (c .at .front) (c .at .back), ap length (d .counts .whole), d .counts .nodes)
+                  long = omega (arith, ap length (i .1), length-reverse (d .counts .first ∷ c .at .front), ap length (c .at .whole), length-append (c .at .front) (c .at .back), ap length (d .counts .whole), d .counts .nodes);
                 }
               where
                 whole : Different ((d .counts .first ∷ c .at .front) ++ c .at .back)

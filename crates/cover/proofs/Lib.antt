@@ -4,3 +4,4 @@ pub mod Searching
 pub mod Completing
 pub mod Rules
 pub mod Outcomes
+pub mod Demands

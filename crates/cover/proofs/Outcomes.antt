@@ -35,8 +35,8 @@ module _ (starts heads weights : List ℕ) (k : ℕ) (order : List ℕ) (a : Are
       record { sound = wide-sound; ends-long = omega (arith, r .starts-long, r .sound .sized .least); heads-long = r .heads-long; weights-long = r .weights-long }
 
   pub ready-to-prune :
-    (cover starts′ heads′ weights′ : List ℕ) → Turned starts heads weights starts′ heads′ weights′ → length starts′ ≡ length (a .starts) → length cover ≡ length (a .cover) →
-    Prunable starts heads weights starts′ heads′ weights′ cover
+      (cover starts′ heads′ weights′ : List ℕ) → Turned starts heads weights starts′ heads′ weights′ → length starts′ ≡ length (a .starts) → length cover ≡ length (a .cover) →
+      Prunable starts heads weights starts′ heads′ weights′ cover
   ready-to-prune cover starts′ heads′ weights′ t e f =
       record { sound = wide-sound; turned = t; as-long = omega (arith, r .starts-long, r .sound .sized .least); bytes = f ∙ r .cover-long }
 
@@ -49,15 +49,15 @@ module _ (starts heads weights : List ℕ) (k : ℕ) (order : List ℕ) (a : Are
   cleared l n m e f = e ∙ ap (λ (x : ℕ). replicate x 0) f
 
   pub built :
-    (after : Areas) (ones : List ℕ) (s h w : ℕ) (count : ℕ) → ones ≡ replicate (length (a .cover)) 1 → Prunes (PathOf (road starts heads weights) k) order ones (after .cover) →
-    (after .starts ≡ replicate s 0) × (after .heads ≡ replicate h 0) × (after .weights ≡ replicate w 0) → s ≡ length (a .starts) → h ≡ length (a .heads) → w ≡ length (a .weights) →
-    (after .marks ≡ replicate (length (a .marks)) 0) × (after .pieces ≡ replicate (length (a .pieces)) 0) × (after .sizes ≡ replicate (length (a .sizes)) 0) →
-    count ≡ times 1 (after .cover) → Built starts heads weights k order after count
+      (after : Areas) (ones : List ℕ) (s h w : ℕ) (count : ℕ) → ones ≡ replicate (length (a .cover)) 1 → Prunes (PathOf (road starts heads weights) k) order ones (after .cover) →
+      (after .starts ≡ replicate s 0) × (after .heads ≡ replicate h 0) × (after .weights ≡ replicate w 0) → s ≡ length (a .starts) → h ≡ length (a .heads) → w ≡ length (a .weights) →
+      (after .marks ≡ replicate (length (a .marks)) 0) × (after .pieces ≡ replicate (length (a .pieces)) 0) × (after .sizes ≡ replicate (length (a .sizes)) 0) →
+      count ≡ times 1 (after .cover) → Built starts heads weights k order after count
   built after ones s h w count e p z sl hl wl y c =
       record {
         pruned = subst (λ (l : List ℕ). Prunes (PathOf (road starts heads weights) k) order l (after .cover)) (e ∙ ap (λ (x : ℕ). replicate x 1) (r .cover-long)) p;
         count-right = c;
-        zeros = same
+        zeros = same;
       }
     where
       starts-zero : after .starts ≡ replicate (nodesOf starts + 1) 0
@@ -81,21 +81,21 @@ module _ (starts heads weights : List ℕ) (k : ℕ) (order : List ℕ) (a : Are
       same : after ≡ answered (nodesOf starts) (length heads) (after .cover)
       same =
           λ i.
-            record {
-              cover = after .cover;
-              starts = starts-zero i;
-              heads = heads-zero i;
-              weights = weights-zero i;
-              marks = marks-zero i;
-              pieces = pieces-zero i;
-              sizes = sizes-zero i
-            }
+          record {
+            cover = after .cover;
+            starts = starts-zero i;
+            heads = heads-zero i;
+            weights = weights-zero i;
+            marks = marks-zero i;
+            pieces = pieces-zero i;
+            sizes = sizes-zero i;
+          }
 
 k-of : (k : ℕ) → (BadK k → ⊥) → OfK k
 k-of k n = record { some = not-over 1 k (λ h. n (BadK.none (omega arith))); most = not-over k mostK (λ h. n (BadK.many h)) }
 
 module _ (starts heads weights : List ℕ) (k : ℕ) (order : List ℕ) where
-  input-sound : None (coverFaults starts heads weights k order) → Sound roadLimits starts heads weights
+  pub input-sound : None (coverFaults starts heads weights k order) → Sound roadLimits starts heads weights
   input-sound n = sound-of roadLimits starts heads weights (none-front (graphFaults roadLimits starts heads weights) (kFault k ∷ orderFault (nodesOf starts) order ∷ []) n)
 
   pub few-nodes : (v : Verdict) → Judges (coverFaults starts heads weights k order) v → v ≡ Passed → nodesOf starts ≤ 4096
@@ -133,7 +133,7 @@ module _ (starts heads weights : List ℕ) (k : ℕ) (order : List ℕ) (a : Are
               weights-long = y .1 .1 .1 .0;
               marks-long = y .1 .1 .1 .1 .0;
               pieces-long = y .1 .1 .1 .1 .1 .0;
-              sizes-long = y .1 .1 .1 .1 .1 .1 .0
+              sizes-long = y .1 .1 .1 .1 .1 .1 .0;
             }
 
         pub covered-so : (after : Areas) (count : ℕ) → Built starts heads weights k order after count → Outcome starts heads weights k order a (answer (count ∷ [])) after

@@ -40,13 +40,13 @@ bits-now cover v b = record { bit = λ x. by x (ℕ-discrete x v) (b .bit x) }
 
 -- of a list's nodes but v, either all are dropped or one is a point
 other-point :
-  (cover : List ℕ) → Bits cover → (v : ℕ) (l : List ℕ) → ((x : ℕ) → Mem x l → x ≢ v → Dropped cover x) ⊎ ((x : ℕ) × Mem x l × InSet cover x × (x ≢ v))
+    (cover : List ℕ) → Bits cover → (v : ℕ) (l : List ℕ) → ((x : ℕ) → Mem x l → x ≢ v → Dropped cover x) ⊎ ((x : ℕ) × Mem x l × InSet cover x × (x ≢ v))
 other-point cover b v [] = inl (λ x h n. absurd h)
 other-point cover b v (y ∷ l) = by (ℕ-discrete y v) (b .bit y) (other-point cover b v l)
   where
     by :
-      Dec (y ≡ v) → (getD cover y 0 ≡ 0) ⊎ (getD cover y 0 ≡ 1) → ((x : ℕ) → Mem x l → x ≢ v → Dropped cover x) ⊎ ((x : ℕ) × Mem x l × InSet cover x × (x ≢ v)) →
-      ((x : ℕ) → Mem x (y ∷ l) → x ≢ v → Dropped cover x) ⊎ ((x : ℕ) × Mem x (y ∷ l) × InSet cover x × (x ≢ v))
+        Dec (y ≡ v) → (getD cover y 0 ≡ 0) ⊎ (getD cover y 0 ≡ 1) → ((x : ℕ) → Mem x l → x ≢ v → Dropped cover x) ⊎ ((x : ℕ) × Mem x l × InSet cover x × (x ≢ v)) →
+        ((x : ℕ) → Mem x (y ∷ l) → x ≢ v → Dropped cover x) ⊎ ((x : ℕ) × Mem x (y ∷ l) × InSet cover x × (x ≢ v))
     by d z (inr r) = inr (r .0, inr (r .1), r .2, r .3)
     by (yes e) z (inl f) = inl (λ x h n. ⊎-elim (λ q. absurd (n (q ∙ e))) (λ m. f x m n) h)
     by (no n) (inr o) (inl f) = inr (y, inl refl, o, n)
@@ -92,8 +92,8 @@ module _ {Counts : List ℕ → Type 0} where
       found l x m i d = (x, m, getD-set-other cover v x 0 0 d ∙ i)
 
       by :
-        (l : List ℕ) → Counts l → (w : ℕ) × Mem w l × InSet cover w → ((x : ℕ) → Mem x l → x ≢ v → Dropped cover x) ⊎ ((x : ℕ) × Mem x l × InSet cover x × (x ≢ v)) →
-        (w : ℕ) × Mem w l × InSet (set cover v 0) w
+          (l : List ℕ) → Counts l → (w : ℕ) × Mem w l × InSet cover w → ((x : ℕ) → Mem x l → x ≢ v → Dropped cover x) ⊎ ((x : ℕ) × Mem x l × InSet cover x × (x ≢ v)) →
+          (w : ℕ) × Mem w l × InSet (set cover v 0) w
       by l h p (inr o) = found l (o .0) (o .1) (o .2) (o .3)
       by l h p (inl f) = at (ℕ-discrete (p .0) v)
         where
@@ -113,7 +113,7 @@ module _ {Counts : List ℕ → Type 0} where
         path = n .path;
         counts = n .counts;
         on = subst (λ (y : ℕ). Mem y (n .path)) (sym e) (n .on);
-        only = λ y h o. by y h o (ℕ-discrete y v)
+        only = λ y h o. by y h o (ℕ-discrete y v);
       }
     where
       by : (y : ℕ) → Mem y (n .path) → InSet left y → Dec (y ≡ v) → y ≡ x
@@ -147,8 +147,8 @@ module _ {Counts : List ℕ → Type 0} {n : ℕ} {order cover : List ℕ} (p : 
 
 -- the same paths count: the same cover
 pub same-paths :
-  {Counts Others : List ℕ → Type 0} → ((l : List ℕ) → Counts l → Others l) → ((l : List ℕ) → Others l → Counts l) → {order cover left : List ℕ} →
-  Prunes Counts order cover left → Prunes Others order cover left
+    {Counts Others : List ℕ → Type 0} → ((l : List ℕ) → Counts l → Others l) → ((l : List ℕ) → Others l → Counts l) → {order cover left : List ℕ} →
+    Prunes Counts order cover left → Prunes Others order cover left
 same-paths f g done = done
 same-paths f g (keep n p) = keep (record { path = n .path; counts = f (n .path) (n .counts); on = n .on; others = n .others }) (same-paths f g p)
 same-paths f g (drop n p) =

@@ -36,32 +36,32 @@ apart (longer {m = m} x n f w r) = inr (record { node = x; left = m; fewer = ref
 -- the arcs at places from `from` up to, but not including, i lead nowhere
 pub record Tried (End : List ℕ → ℕ → Type 0) (starts heads cover on : List ℕ) (m «from» i : ℕ) : Type 0 where
   pub nowhere :
-    (j : ℕ) → «from» ≤ j → j < i → FreeNode cover on (getD heads j 0) →
-    Completes (Joined starts heads) (Dropped cover) End (on ++ (getD heads j 0 ∷ [])) (getD heads j 0) m → ⊥
+      (j : ℕ) → «from» ≤ j → j < i → FreeNode cover on (getD heads j 0) →
+      Completes (Joined starts heads) (Dropped cover) End (on ++ (getD heads j 0 ∷ [])) (getD heads j 0) m → ⊥
 
 module _ (End : List ℕ → ℕ → Type 0) (starts heads cover on : List ℕ) where
   pub tried-none : (m i : ℕ) → Tried End starts heads cover on m i i
   tried-none m i = record { nowhere = λ j h l f r. omega arith }
 
   pub tried-more :
-    (m i k : ℕ) → Tried End starts heads cover on m k i →
-    (FreeNode cover on (getD heads i 0) → Completes (Joined starts heads) (Dropped cover) End (on ++ (getD heads i 0 ∷ [])) (getD heads i 0) m → ⊥) →
-    Tried End starts heads cover on m k (i + 1)
+      (m i k : ℕ) → Tried End starts heads cover on m k i →
+      (FreeNode cover on (getD heads i 0) → Completes (Joined starts heads) (Dropped cover) End (on ++ (getD heads i 0 ∷ [])) (getD heads i 0) m → ⊥) →
+      Tried End starts heads cover on m k (i + 1)
   tried-more m i k t n =
       record {
         nowhere =
-          λ j h l.
+            λ j h l.
             below-more
             (λ (x : ℕ). k ≤ x → FreeNode cover on (getD heads x 0) → Completes (Joined starts heads) (Dropped cover) End (on ++ (getD heads x 0 ∷ [])) (getD heads x 0) m → ⊥)
-            i (λ x b c. t .nowhere x c b) (λ c. n) j l h
+            i (λ x b c. t .nowhere x c b) (λ c. n) j l h;
       }
 
   module _ (g : Rising starts heads) (a m : ℕ) (some : m ≢ 0) where
     -- an arc that leads on
     pub leads :
-      (i : ℕ) → getD starts a 0 ≤ i → i < getD starts (a + 1) 0 → FreeNode cover on (getD heads i 0) →
-      Completes (Joined starts heads) (Dropped cover) End (on ++ (getD heads i 0 ∷ [])) (getD heads i 0) (m - 1) →
-      Completes (Joined starts heads) (Dropped cover) End on a m
+        (i : ℕ) → getD starts a 0 ≤ i → i < getD starts (a + 1) 0 → FreeNode cover on (getD heads i 0) →
+        Completes (Joined starts heads) (Dropped cover) End (on ++ (getD heads i 0 ∷ [])) (getD heads i 0) (m - 1) →
+        Completes (Joined starts heads) (Dropped cover) End on a m
     leads i h l f r =
         let owned : Owns starts a i = record { from = h; below = l } in
         let next : Joined starts heads a (getD heads i 0) = record { place = i; listed = owned-listed starts heads g a i owned; owned = owned; head = refl } in
@@ -70,8 +70,8 @@ module _ (End : List ℕ → ℕ → Type 0) (starts heads cover on : List ℕ) 
 
     -- all arcs lead nowhere, and the path is not complete at this end
     pub none-leads :
-      Tried End starts heads cover on (m - 1) (getD starts a 0) (getD starts (a + 1) 0) → (End on m → ⊥) →
-      Completes (Joined starts heads) (Dropped cover) End on a m → ⊥
+        Tried End starts heads cover on (m - 1) (getD starts a 0) (getD starts (a + 1) 0) → (End on m → ⊥) →
+        Completes (Joined starts heads) (Dropped cover) End on a m → ⊥
     none-leads t n c = by (apart c)
       where
         by : End on m ⊎ Longer (Joined starts heads) (Dropped cover) End on a m → ⊥
@@ -87,8 +87,8 @@ module _ (End : List ℕ → ℕ → Type 0) (starts heads cover on : List ℕ) 
 
     -- so the answer at this end is the answer
     pub last-resort :
-      {b : Bool} → Tried End starts heads cover on (m - 1) (getD starts a 0) (getD starts (a + 1) 0) → Tells b (End on m) →
-      Tells b (Completes (Joined starts heads) (Dropped cover) End on a m)
+        {b : Bool} → Tried End starts heads cover on (m - 1) (getD starts a 0) (getD starts (a + 1) 0) → Tells b (End on m) →
+        Tells b (Completes (Joined starts heads) (Dropped cover) End on a m)
     last-resort t u = record { yes = λ e. ends (u .yes e); no = λ e. none-leads t (u .no e) }
 
 pub row-bounds : (starts heads : List ℕ) (n a : ℕ) → Searchable starts heads n → a < n → a + 1 < length starts
@@ -103,7 +103,7 @@ module _ (starts heads : List ℕ) (n a i : ℕ) (g : Searchable starts heads n)
 
 -- what the search found of the path with one node more, said of that node and of the nodes then on the path
 pub carried :
-  (R : List ℕ → ℕ → Type 0) {b : Bool} (on : List ℕ) {on′ : List ℕ} {a v : ℕ} → on′ ≡ on ++ (v ∷ []) → a ≡ v → Tells b (R on′ a) → Tells b (R (on ++ (v ∷ [])) v)
+    (R : List ℕ → ℕ → Type 0) {b : Bool} (on : List ℕ) {on′ : List ℕ} {a v : ℕ} → on′ ≡ on ++ (v ∷ []) → a ≡ v → Tells b (R on′ a) → Tells b (R (on ++ (v ∷ [])) v)
 carried R {b} on e f t = subst₂ (λ (l : List ℕ) (x : ℕ). Tells b (R l x)) e f t
 
 -- the places tried, where the row ends
@@ -124,8 +124,8 @@ module _ (starts heads weights starts′ heads′ weights′ cover : List ℕ) (
 
 -- the bytes change and stay as many
 pub prunable-still :
-  (starts heads weights starts′ heads′ weights′ cover after : List ℕ) → Prunable starts heads weights starts′ heads′ weights′ cover → length after ≡ length cover →
-  Prunable starts heads weights starts′ heads′ weights′ after
+    (starts heads weights starts′ heads′ weights′ cover after : List ℕ) → Prunable starts heads weights starts′ heads′ weights′ cover → length after ≡ length cover →
+    Prunable starts heads weights starts′ heads′ weights′ after
 prunable-still starts heads weights starts′ heads′ weights′ cover after g e =
     record { sound = g .sound; turned = g .turned; as-long = g .as-long; bytes = e ∙ g .bytes }
 

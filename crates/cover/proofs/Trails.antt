@@ -17,16 +17,17 @@ pub pushes-full : (t : Trail) (v : ℕ) → 32 ≤ t .count .0 → Pushes t v (r
 pushes-full t v h = record { longer = λ l. absurd (omega arith); full = λ l. (refl, refl) }
 
 pub pushes-longer :
-  (t : Trail) (v : ℕ) → length (t .nodes) ≡ 32 → t .count .0 < 32 →
-  Pushes t v (record { full = false; trail = record { nodes = set (t .nodes) (t .count .0) v; count = record { 0 = t .count .0 + 1 } } })
+    (t : Trail) (v : ℕ) → length (t .nodes) ≡ 32 → t .count .0 < 32 →
+    Pushes t v (record { full = false; trail = record { nodes = set (t .nodes) (t .count .0) v; count = record { 0 = t .count .0 + 1 } } })
 pushes-longer t v l h =
     record {
       longer =
-        λ m.
-          ( refl
-          , ap (λ (n : ℕ). take n (set (t .nodes) (t .count .0) v)) (add-one (t .count .0)) ∙ take-suc-set (t .nodes) (t .count .0) v (omega arith)
-          , refl );
-      full = λ m. absurd (omega arith)
+          λ m. (
+            refl,
+            ap (λ (n : ℕ). take n (set (t .nodes) (t .count .0) v)) (add-one (t .count .0)) ∙ take-suc-set (t .nodes) (t .count .0) v (omega arith),
+            refl,
+          );
+      full = λ m. absurd (omega arith);
     }
 
 module _ (nodes : List ℕ) (count v : ℕ) (long : length nodes ≡ 32) (few : count ≤ 32) where

@@ -51,7 +51,7 @@ answered n m cover =
       weights = replicate m 0;
       marks = replicate n 0;
       pieces = replicate n 0;
-      sizes = replicate n 0
+      sizes = replicate n 0;
     }
 
 -- what the call says and leaves. A refusal is of the first fault, and leaves everything as it was. An answer is given where there is
@@ -59,8 +59,8 @@ answered n m cover =
 pub data Outcome (starts heads weights : List ℕ) (k : ℕ) (order : List ℕ) (before : Areas) : Said → Areas → Type 0 where
   refused : {r : Refusal} → First (faultsOf starts heads weights k order before) r → Outcome starts heads weights k order before (refusal r) before
   covered :
-    {cover : List ℕ} → None (faultsOf starts heads weights k order before) → Pruned (PathOf (road starts heads weights) k) (nodesOf starts) order cover →
-    Outcome starts heads weights k order before (answer (times 1 cover ∷ [])) (answered (nodesOf starts) (length heads) cover)
+      {cover : List ℕ} → None (faultsOf starts heads weights k order before) → Pruned (PathOf (road starts heads weights) k) (nodesOf starts) order cover →
+      Outcome starts heads weights k order before (answer (times 1 cover ∷ [])) (answered (nodesOf starts) (length heads) cover)
 
 -- what the checks leave: the graph is well formed, k and the order are right, and so are the lengths
 pub record Ready (starts heads weights : List ℕ) (k : ℕ) (order : List ℕ) (a : Areas) : Type 0 where

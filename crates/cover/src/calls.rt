@@ -112,8 +112,25 @@ fn build(
     ensures { λ r. ⌜ Built (now (starts .entry)) (now (heads .entry)) (now (weights .entry)) (k .0) (now (order .entry)) (record { cover = now (cover .exit); starts = now («starts_back» .exit); heads = now («heads_back» .exit); weights = now («weights_back» .exit); marks = now (marks .exit); pieces = now (pieces .exit); sizes = now (sizes .exit) }) (r .0) ⌝ }
 {
     fill_bytes(cover, 1);
-    turn(starts, heads, weights, starts_back, heads_back, weights_back);
-    prune(starts, heads, weights, starts_back, heads_back, weights_back, k, order, cover);
+    turn(
+        starts,
+        heads,
+        weights,
+        starts_back,
+        heads_back,
+        weights_back,
+    );
+    prune(
+        starts,
+        heads,
+        weights,
+        starts_back,
+        heads_back,
+        weights_back,
+        k,
+        order,
+        cover,
+    );
     clear_work(starts_back, heads_back, weights_back, marks, pieces, sizes);
     count_ones(cover)
 }
@@ -142,12 +159,33 @@ pub fn cover(
     }
     let n = node_count(starts);
     let m = ArcCount(heads.len());
-    let lengths = check_lengths(n, m, cover, starts_back, heads_back, weights_back, marks, pieces, sizes);
+    let lengths = check_lengths(
+        n,
+        m,
+        cover,
+        starts_back,
+        heads_back,
+        weights_back,
+        marks,
+        pieces,
+        sizes,
+    );
     if let Verdict::Refused(r) = lengths {
         return CoverAnswer::Refused(r);
     }
     let count = build(
-        starts, heads, weights, k, order, cover, starts_back, heads_back, weights_back, marks, pieces, sizes,
+        starts,
+        heads,
+        weights,
+        k,
+        order,
+        cover,
+        starts_back,
+        heads_back,
+        weights_back,
+        marks,
+        pieces,
+        sizes,
     );
     CoverAnswer::Covered(count)
 }

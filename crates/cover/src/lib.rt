@@ -1,9 +1,10 @@
-// The cover: pruning, and the search that it rests on.
+// The cover: the path search, pruning, and the call that picks the points.
 mod calls;
 mod pruning;
 mod search;
 mod under_trial;
 
+pub use calls::cover;
 use road::NodeCount;
 use road::Refusal;
 

@@ -30,7 +30,17 @@ fn is_needed(
     ensures { λ r. ⌜ Tells r (Needed (PathOf (road (now (starts .entry)) (now (heads .entry)) (now (weights .entry))) (k .0)) (now (cover .entry)) v) ⌝ }
 {
     let trail = Trail::of(v);
-    inward(starts, heads, starts_back, heads_back, cover, trail, wide(v), wide(v), NodeCount(k.0 - 1))
+    inward(
+        starts,
+        heads,
+        starts_back,
+        heads_back,
+        cover,
+        trail,
+        wide(v),
+        wide(v),
+        NodeCount(k.0 - 1),
+    )
 }
 
 // Takes one node.
@@ -50,7 +60,17 @@ fn take_node(
     requires { ⌜ v < length (now cover) ⌝ }
     ensures { λ _. ⌜ Took (PathOf (road (now (starts .entry)) (now (heads .entry)) (now (weights .entry))) (k .0)) v (now (cover .entry)) (now (cover .exit)) ⌝ }
 {
-    if is_needed(starts, heads, weights, starts_back, heads_back, weights_back, k, cover, v) {
+    if is_needed(
+        starts,
+        heads,
+        weights,
+        starts_back,
+        heads_back,
+        weights_back,
+        k,
+        cover,
+        v,
+    ) {
         return;
     }
     cover[wide(v)] = 0;
@@ -75,7 +95,17 @@ pub fn prune(
 {
     let mut i = 0;
     while i < order.len() {
-        take_node(starts, heads, weights, starts_back, heads_back, weights_back, k, cover, order[i]);
+        take_node(
+            starts,
+            heads,
+            weights,
+            starts_back,
+            heads_back,
+            weights_back,
+            k,
+            cover,
+            order[i],
+        );
         i += 1;
     }
 }

@@ -25,7 +25,14 @@ fn is_free(cover: &[u8], t: Trail, v: u32) -> bool
 }
 
 // At the outward end alone.
-fn outward(starts: &[u32], heads: &[u32], cover: &[u8], t: Trail, last: usize, missing: NodeCount) -> bool
+fn outward(
+    starts: &[u32],
+    heads: &[u32],
+    cover: &[u8],
+    t: Trail,
+    last: usize,
+    missing: NodeCount,
+) -> bool
     requires { ⌜ Searchable (now starts) (now heads) (length (now cover)) ⌝ }
     requires { ⌜ last < length (now cover) ⌝ }
     requires { ⌜ t .count .0 + missing .0 ≤ 32 ⌝ }
@@ -42,7 +49,14 @@ fn outward(starts: &[u32], heads: &[u32], cover: &[u8], t: Trail, last: usize, m
             // k is at most 32, so there is room.
             let longer = t.push(v);
             let trail = longer.trail;
-            if outward(starts, heads, cover, trail, wide(v), NodeCount(missing.0 - 1)) {
+            if outward(
+                starts,
+                heads,
+                cover,
+                trail,
+                wide(v),
+                NodeCount(missing.0 - 1),
+            ) {
                 return true;
             }
         }
@@ -81,7 +95,17 @@ pub fn inward(
         if is_free(cover, t, v) {
             let longer = t.push(v);
             let trail = longer.trail;
-            if inward(starts, heads, starts_back, heads_back, cover, trail, wide(v), last, NodeCount(missing.0 - 1)) {
+            if inward(
+                starts,
+                heads,
+                starts_back,
+                heads_back,
+                cover,
+                trail,
+                wide(v),
+                last,
+                NodeCount(missing.0 - 1),
+            ) {
                 return true;
             }
         }

@@ -203,5 +203,5 @@ sound-wider starts heads weights g =
       inside = g .inside;
       unlooped = g .unlooped;
       ascends = g .ascends;
-      light = λ p h. omega (arith, g .light p h)
+      light = λ p h. omega (arith, g .light p h);
     }

@@ -116,7 +116,7 @@ permuted n order f =
     record {
       all = λ v h. by v h (mem? v order);
       once = different-stable order (λ g. f (λ p. g (p .once)));
-      only = mem-each (λ (v : ℕ). v < n) order (λ v h. not-over (suc v) n (λ l. f (λ p. omega (arith, each-mem (λ (x : ℕ). x < n) v order (p .only) h))))
+      only = mem-each (λ (v : ℕ). v < n) order (λ v h. not-over (suc v) n (λ l. f (λ p. omega (arith, each-mem (λ (x : ℕ). x < n) v order (p .only) h))));
     }
   where
     by : (v : ℕ) → v < n → Mem v order ⊎ (Mem v order → ⊥) → Mem v order

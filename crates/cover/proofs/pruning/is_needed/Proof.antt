@@ -18,12 +18,19 @@ sub-t13 : tie.Need-sub-t13
 sub-t13 c = search needs
 
 inward-requires : tie.Need-inward-requires
-inward-requires c κs =
-    ( search-forth _ _ _ _ _ _ _ (c .before .before .before .before .before .before .before .before .before .before .before .pre .0)
-    , ( search-back _ _ _ _ _ _ _ (c .before .before .before .before .before .before .before .before .before .before .before .pre .0)
-    , ( omega arith
-    , ( omega arith
-    , omega (arith, c .before .before .before .of .ensures .1, c .before .before .before .before .before .before .before .before .before .before .before .pre .1 .0 .most, c .before .before .before .before .before .before .before .before .before .before .before .pre .1 .0 .some) ) ) ) )
+inward-requires c κs = (
+  search-forth _ _ _ _ _ _ _ (c .before .before .before .before .before .before .before .before .before .before .before .pre .0),
+  (
+    search-back _ _ _ _ _ _ _ (c .before .before .before .before .before .before .before .before .before .before .before .pre .0),
+    (
+      omega arith,
+      (
+        omega arith,
+        omega (arith, c .before .before .before .of .ensures .1, c .before .before .before .before .before .before .before .before .before .before .before .pre .1 .0 .most, c .before .before .before .before .before .before .before .before .before .before .before .pre .1 .0 .some),
+      ),
+    ),
+  ),
+)
 
 returns : tie.Need-returns
 returns c =

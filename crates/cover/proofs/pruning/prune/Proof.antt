@@ -25,10 +25,13 @@ shared-slice-read-take-node : tie.Need-shared-slice-read-take-node Inv-loop μ-l
 shared-slice-read-take-node c = search needs
 
 take-node-requires : tie.Need-take-node-requires Inv-loop μ-loop
-take-node-requires c κs =
-    ( prunable-still _ _ _ _ _ _ _ _ (c .before .before .before .before .before .before .before .before .before .before .before .before .pre .0) (c .before .before .before .loop .inv .long)
-    , ( c .before .before .before .before .before .before .before .before .before .before .before .before .pre .1 .0
-    , node-at (c .before .before .before .before .before .before .before .before .before .before .before .before .args .order .now) (c .before .before .before .before .before .before .before .before .before .before .before .before .args .cover .now) (c .before .before .before .loop .cover) _ (c .before .before .before .before .before .before .before .before .before .before .before .before .pre .1 .1) (c .before .before .before .loop .inv .long) (c .before .before .loop-test .taken) ) )
+take-node-requires c κs = (
+  prunable-still _ _ _ _ _ _ _ _ (c .before .before .before .before .before .before .before .before .before .before .before .before .pre .0) (c .before .before .before .loop .inv .long),
+  (
+    c .before .before .before .before .before .before .before .before .before .before .before .before .pre .1 .0,
+    node-at (c .before .before .before .before .before .before .before .before .before .before .before .before .args .order .now) (c .before .before .before .before .before .before .before .before .before .before .before .before .args .cover .now) (c .before .before .before .loop .cover) _ (c .before .before .before .before .before .before .before .before .before .before .before .before .pre .1 .1) (c .before .before .before .loop .inv .long) (c .before .before .loop-test .taken),
+  ),
+)
 
 add-i : tie.Need-add-i Inv-loop μ-loop
 add-i c = search needs

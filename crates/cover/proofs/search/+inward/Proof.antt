@@ -88,13 +88,22 @@ sub-t28 : (t : ℕ) → inward-lts.Need-sub-t28 (calls t) (inward-at t) inward.P
 sub-t28 t c = search needs
 
 again-requires : (t : ℕ) → inward-lts.Need-inward-requires (calls t) (inward-at t) inward.Post Inv μ
-again-requires t c κs =
-    ( omega (arith, c .before .before .before .before .before .before .before .before .before .before .before .before .before .before .before .before .before .before .before .before .pre .0, c .before .before .before .before .before .before .before .before .before .before .before .before .before .if1 .left)
-    , ( c .before .before .before .before .before .before .before .before .before .before .before .before .before .before .before .before .before .before .before .before .pre .1 .0
-    , ( c .before .before .before .before .before .before .before .before .before .before .before .before .before .before .before .before .before .before .before .before .pre .1 .1 .0
-    , ( omega (arith, head-node _ _ _ _ _ (c .before .before .before .before .before .before .before .before .before .before .before .before .before .before .before .before .before .before .before .before .pre .1 .1 .0) (c .before .before .before .before .before .before .before .before .loop .inv .0) (omega arith), c .before .wide3 .ensures)
-    , ( c .before .before .before .before .before .before .before .before .before .before .before .before .before .before .before .before .before .before .before .before .pre .1 .1 .1 .1 .0
-    , omega (arith, c .before .before .before .before .before .before .before .before .before .before .before .before .before .before .before .before .before .before .before .before .pre .1 .1 .1 .1 .1, c .before .before .before .before .before .before .before .before .before .before .before .before .before .if1 .left, c .before .before .before .push .ensures .longer (omega (arith, c .before .before .before .before .before .before .before .before .before .before .before .before .before .before .before .before .before .before .before .before .pre .1 .1 .1 .1 .1, c .before .before .before .before .before .before .before .before .before .before .before .before .before .if1 .left)) .2) ) ) ) ) )
+again-requires t c κs = (
+  omega (arith, c .before .before .before .before .before .before .before .before .before .before .before .before .before .before .before .before .before .before .before .before .pre .0, c .before .before .before .before .before .before .before .before .before .before .before .before .before .if1 .left),
+  (
+    c .before .before .before .before .before .before .before .before .before .before .before .before .before .before .before .before .before .before .before .before .pre .1 .0,
+    (
+      c .before .before .before .before .before .before .before .before .before .before .before .before .before .before .before .before .before .before .before .before .pre .1 .1 .0,
+      (
+        omega (arith, head-node _ _ _ _ _ (c .before .before .before .before .before .before .before .before .before .before .before .before .before .before .before .before .before .before .before .before .pre .1 .1 .0) (c .before .before .before .before .before .before .before .before .loop .inv .0) (omega arith), c .before .wide3 .ensures),
+        (
+          c .before .before .before .before .before .before .before .before .before .before .before .before .before .before .before .before .before .before .before .before .pre .1 .1 .1 .1 .0,
+          omega (arith, c .before .before .before .before .before .before .before .before .before .before .before .before .before .before .before .before .before .before .before .before .pre .1 .1 .1 .1 .1, c .before .before .before .before .before .before .before .before .before .before .before .before .before .if1 .left, c .before .before .before .push .ensures .longer (omega (arith, c .before .before .before .before .before .before .before .before .before .before .before .before .before .before .before .before .before .before .before .before .pre .1 .1 .1 .1 .1, c .before .before .before .before .before .before .before .before .before .before .before .before .before .if1 .left)) .2),
+        ),
+      ),
+    ),
+  ),
+)
 
 returns-2 : (t : ℕ) → inward-lts.Need-returns-2 (calls t) (inward-at t) inward.Post Inv μ
 returns-2 t c =
@@ -109,13 +118,14 @@ loop-less : (t : ℕ) → inward-lts.Need-loop-less (calls t) (inward-at t) inwa
 loop-less t c = search needs
 
 loop-again : (t : ℕ) → inward-lts.Need-loop-again (calls t) (inward-at t) inward.Post Inv μ
-loop-again t c =
-    ( omega arith
-    , omega arith
-    , tried-more _ _ _ _ _ _ _ _ (c .before .before .before .before .loop .inv .2)
-    (λ f r. ⊎-elim
-    (λ w. carried (λ (l : List ℕ) (x : ℕ). Completes (Joined (c .before .before .before .before .before .before .before .before .before .before .before .before .before .before .before .before .args .starts-back .now) (c .before .before .before .before .before .before .before .before .before .before .before .before .before .before .before .before .args .heads-back .now)) (Dropped (c .before .before .before .before .before .before .before .before .before .before .before .before .before .before .before .before .args .cover .now)) (OutwardFrom (c .before .before .before .before .before .before .before .before .before .before .before .before .before .before .before .before .args .starts .now) (c .before .before .before .before .before .before .before .before .before .before .before .before .before .before .before .before .args .heads .now) (c .before .before .before .before .before .before .before .before .before .before .before .before .before .before .before .before .args .cover .now) (c .before .before .before .before .before .before .before .before .before .before .before .before .before .before .before .before .args .last)) l x (c .before .before .before .before .before .before .before .before .before .before .before .before .before .before .before .before .args .missing .0 - 1)) (onTrail (c .before .before .before .before .before .before .before .before .before .before .before .before .before .before .before .before .args .t)) (w .1 .ensures .longer (omega (arith, c .before .before .before .before .before .before .before .before .before .before .before .before .before .before .before .before .pre .1 .1 .1 .1 .1, c .before .before .before .before .before .before .before .before .before .if1 .left)) .1) (w .3 .ensures) (w .5 .ensures) .no (w .6 .left) r)
-    (λ w. c .before .is-free .ensures .no (w .left) f) (c .if2 .came)) )
+loop-again t c = (
+  omega arith,
+  omega arith,
+  tried-more _ _ _ _ _ _ _ _ (c .before .before .before .before .loop .inv .2)
+      (λ f r. ⊎-elim
+      (λ w. carried (λ (l : List ℕ) (x : ℕ). Completes (Joined (c .before .before .before .before .before .before .before .before .before .before .before .before .before .before .before .before .args .starts-back .now) (c .before .before .before .before .before .before .before .before .before .before .before .before .before .before .before .before .args .heads-back .now)) (Dropped (c .before .before .before .before .before .before .before .before .before .before .before .before .before .before .before .before .args .cover .now)) (OutwardFrom (c .before .before .before .before .before .before .before .before .before .before .before .before .before .before .before .before .args .starts .now) (c .before .before .before .before .before .before .before .before .before .before .before .before .before .before .before .before .args .heads .now) (c .before .before .before .before .before .before .before .before .before .before .before .before .before .before .before .before .args .cover .now) (c .before .before .before .before .before .before .before .before .before .before .before .before .before .before .before .before .args .last)) l x (c .before .before .before .before .before .before .before .before .before .before .before .before .before .before .before .before .args .missing .0 - 1)) (onTrail (c .before .before .before .before .before .before .before .before .before .before .before .before .before .before .before .before .args .t)) (w .1 .ensures .longer (omega (arith, c .before .before .before .before .before .before .before .before .before .before .before .before .before .before .before .before .pre .1 .1 .1 .1 .1, c .before .before .before .before .before .before .before .before .before .if1 .left)) .1) (w .3 .ensures) (w .5 .ensures) .no (w .6 .left) r)
+      (λ w. c .before .is-free .ensures .no (w .left) f) (c .if2 .came)),
+)
 
 outward-requires : (t : ℕ) → inward-lts.Need-outward-requires (calls t) (inward-at t) inward.Post Inv μ
 outward-requires t c κs = (c .before .before .before .before .before .before .before .before .before .before .before .before .before .pre .1 .0, (c .before .before .before .before .before .before .before .before .before .before .before .before .before .pre .1 .1 .1 .1 .0, c .before .before .before .before .before .before .before .before .before .before .before .before .before .pre .1 .1 .1 .1 .1))

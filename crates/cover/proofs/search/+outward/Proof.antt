@@ -101,13 +101,14 @@ loop-less : (t : ℕ) → outward-lts.Need-loop-less (calls t) (outward-at t) ou
 loop-less t c = search needs
 
 loop-again : (t : ℕ) → outward-lts.Need-loop-again (calls t) (outward-at t) outward.Post Inv μ
-loop-again t c =
-    ( omega arith
-    , omega arith
-    , tried-more _ _ _ _ _ _ _ _ (c .before .before .before .before .loop .inv .2)
-    (λ f r. ⊎-elim
-    (λ w. carried (λ (l : List ℕ) (x : ℕ). Completes (Joined (c .before .before .before .before .before .before .before .before .before .before .before .before .before .before .args .starts .now) (c .before .before .before .before .before .before .before .before .before .before .before .before .before .before .args .heads .now)) (Dropped (c .before .before .before .before .before .before .before .before .before .before .before .before .before .before .args .cover .now)) NoneMissing l x (c .before .before .before .before .before .before .before .before .before .before .before .before .before .before .args .missing .0 - 1)) (onTrail (c .before .before .before .before .before .before .before .before .before .before .before .before .before .before .args .t)) (w .1 .ensures .longer (omega (arith, c .before .before .before .before .before .before .before .before .before .before .before .before .before .before .pre .1 .1 .1, c .before .before .before .before .before .before .before .before .before .if1 .left)) .1) (w .3 .ensures) (w .5 .ensures) .no (w .6 .left) r)
-    (λ w. c .before .is-free .ensures .no (w .left) f) (c .if2 .came)) )
+loop-again t c = (
+  omega arith,
+  omega arith,
+  tried-more _ _ _ _ _ _ _ _ (c .before .before .before .before .loop .inv .2)
+      (λ f r. ⊎-elim
+      (λ w. carried (λ (l : List ℕ) (x : ℕ). Completes (Joined (c .before .before .before .before .before .before .before .before .before .before .before .before .before .before .args .starts .now) (c .before .before .before .before .before .before .before .before .before .before .before .before .before .before .args .heads .now)) (Dropped (c .before .before .before .before .before .before .before .before .before .before .before .before .before .before .args .cover .now)) NoneMissing l x (c .before .before .before .before .before .before .before .before .before .before .before .before .before .before .args .missing .0 - 1)) (onTrail (c .before .before .before .before .before .before .before .before .before .before .before .before .before .before .args .t)) (w .1 .ensures .longer (omega (arith, c .before .before .before .before .before .before .before .before .before .before .before .before .before .before .pre .1 .1 .1, c .before .before .before .before .before .before .before .before .before .if1 .left)) .1) (w .3 .ensures) (w .5 .ensures) .no (w .6 .left) r)
+      (λ w. c .before .is-free .ensures .no (w .left) f) (c .if2 .came)),
+)
 
 returns-3 : (t : ℕ) → outward-lts.Need-returns-3 (calls t) (outward-at t) outward.Post Inv μ
 returns-3 t c = tells-no (none-leads _ _ _ _ _ (c .before .before .before .before .before .before .before .before .before .before .before .pre .1 .0 .rising) _ _ (c .before .before .before .before .before .before .if1 .left) (tried-to _ _ _ _ _ _ _ _ _ (omega arith) (c .before .loop .inv .2)) (λ e. c .before .before .before .before .before .before .if1 .left (e .none)))
