@@ -5,3 +5,4 @@ pub mod Completing
 pub mod Rules
 pub mod Outcomes
 pub mod Demands
+pub mod Forbidden
