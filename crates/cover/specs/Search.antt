@@ -1,5 +1,6 @@
 -- When the path under trial can be completed.
 use mathlib.Core.Path.{_≡_}
+use mathlib.Core.Logic.{_⊎_}
 use mathlib.Core.List.{List, [], _∷_, _++_}
 use Prim.Native.Nat.{ℕ, suc, _+_, _≤_, _<_}
 use lib.ListN.{length, getD}
@@ -39,3 +40,19 @@ pub record Searchable (starts heads : List ℕ) (n : ℕ) : Type 0 where
 pub record FreeNode (cover on : List ℕ) (v : ℕ) : Type 0 where
   pub dropped : Dropped cover v
   pub new : Mem v on → ⊥
+
+-- r nodes can come onto the path at its outward end, and of up to `most` nodes no more can
+pub record Longest (starts heads cover on : List ℕ) (last most r : ℕ) : Type 0 where
+  pub reached : Outward starts heads cover on last r
+  pub short : r ≤ most
+  pub bound : (m : ℕ) → m ≤ most → Outward starts heads cover on last m → m ≤ r
+
+-- where up to `most` nodes are missing, no more than r can come onto the path at its outward end
+pub record Within (starts heads cover on : List ℕ) (last most r : ℕ) : Type 0 where
+  pub bound : (m : ℕ) → m ≤ most → Outward starts heads cover on last m → m ≤ r
+
+-- the larger of two numbers
+pub record Larger (a b r : ℕ) : Type 0 where
+  pub left : a ≤ r
+  pub right : b ≤ r
+  pub one : (r ≡ a) ⊎ (r ≡ b)

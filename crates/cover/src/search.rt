@@ -6,7 +6,7 @@ use road::wide;
 ghost use Prim.Native.Nat.{_+_, _≤_, _<_};
 ghost use lib.ListN.{length};
 ghost use Rattle.road.specs.Refusals.{Tells};
-ghost use Rattle.cover.specs.Search.{FreeNode, Inward, Outward, Searchable};
+ghost use Rattle.cover.specs.Search.{FreeNode, Inward, Larger, Longest, Outward, Searchable};
 ghost use Rattle.cover.specs.Trails.{onTrail};
 
 // Whether v is dropped and not on the path yet.
@@ -63,6 +63,44 @@ fn outward(
         i += 1;
     }
     false
+}
+
+fn larger(a: usize, b: usize) -> usize
+    ensures { λ r. ⌜ Larger a b r ⌝ }
+{
+    if a < b {
+        return b;
+    }
+    a
+}
+
+// How many nodes can come onto the path at its outward end, up to `most`.
+pub fn longest(starts: &[u32], heads: &[u32], cover: &[u8], t: Trail, last: usize, most: NodeCount) -> NodeCount
+    requires { ⌜ Searchable (now starts) (now heads) (length (now cover)) ⌝ }
+    requires { ⌜ last < length (now cover) ⌝ }
+    requires { ⌜ t .count .0 + most .0 ≤ 32 ⌝ }
+    ensures { λ r. ⌜ Longest (now (starts .entry)) (now (heads .entry)) (now (cover .entry)) (onTrail t) last (most .0) (r .0) ⌝ }
+{
+    if most.0 == 0 {
+        return NodeCount(0);
+    }
+    let end = wide(starts[last + 1]);
+    let mut i = wide(starts[last]);
+    let mut best = 0;
+    while i < end {
+        let v = heads[i];
+        if is_free(cover, t, v) {
+            let longer = t.push(v);
+            let trail = longer.trail;
+            let found = longest(starts, heads, cover, trail, wide(v), NodeCount(most.0 - 1));
+            best = larger(best, found.0 + 1);
+            if most.0 <= best {
+                return NodeCount(best);
+            }
+        }
+        i += 1;
+    }
+    NodeCount(best)
 }
 
 // At the inward end, over the graph turned round, and where that leads no further at the outward
