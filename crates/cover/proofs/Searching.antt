@@ -16,7 +16,7 @@ use Rattle.road.specs.Limits.{overlayLimits}
 use Rattle.road.specs.Roads.{nodesOf, Owns, Rising, Sound}
 use Rattle.road.proofs.Rows.{owned-listed}
 use Rattle.cover.specs.Rule.{Dropped}
-use Rattle.cover.specs.Search.{Completes, ends, longer, NoneMissing, Outward, FreeNode, Longest, Larger, Searchable}
+use Rattle.cover.specs.Search.{Completes, ends, longer, NoneMissing, Outward, OutwardFrom, FreeNode, Longest, Larger, Within, Searchable}
 use Rattle.cover.specs.Steps.{Prunable}
 
 -- one way to complete the path, taken apart
@@ -134,8 +134,8 @@ node-at order cover after i f e h = omega (arith, each-mem (λ (v : ℕ). v < le
 
 -- Fewer nodes on the path hinder no more.
 fewer-on :
-  {Next : ℕ → ℕ → Type 0} {Free : ℕ → Type 0} {on : List ℕ} {a m : ℕ} (less : List ℕ) → ((x : ℕ) → Mem x less → Mem x on) → Completes Next Free NoneMissing on a m →
-  Completes Next Free NoneMissing less a m
+    {Next : ℕ → ℕ → Type 0} {Free : ℕ → Type 0} {on : List ℕ} {a m : ℕ} (less : List ℕ) → ((x : ℕ) → Mem x less → Mem x on) → Completes Next Free NoneMissing on a m →
+    Completes Next Free NoneMissing less a m
 fewer-on less f (ends e) = ends (record { none = e .none })
 fewer-on {on = on} less f (longer x n g w c) = longer x n g (λ h. w (f x h)) (fewer-on (less ++ (x ∷ [])) more c)
   where
@@ -145,24 +145,24 @@ fewer-on {on = on} less f (longer x n g w c) = longer x n g (λ h. w (f x h)) (f
 -- The longest way out: over the arcs at places from `k` up to, but not including, i it is at most `best`.
 pub record Measured (starts heads cover on : List ℕ) (most best k i : ℕ) : Type 0 where
   pub below :
-    (j : ℕ) → k ≤ j → j < i → FreeNode cover on (getD heads j 0) → (m : ℕ) → m ≤ most - 1 →
-    Outward starts heads cover (on ++ (getD heads j 0 ∷ [])) (getD heads j 0) m → m + 1 ≤ best
+      (j : ℕ) → k ≤ j → j < i → FreeNode cover on (getD heads j 0) → (m : ℕ) → m ≤ most - 1 →
+      Outward starts heads cover (on ++ (getD heads j 0 ∷ [])) (getD heads j 0) m → m + 1 ≤ best
 
 module _ (starts heads cover on : List ℕ) (most : ℕ) where
   pub measured-none : (best i : ℕ) → Measured starts heads cover on most best i i
   measured-none best i = record { below = λ j h l f m b o. absurd (omega arith) }
 
   pub measured-more :
-    (best after k i : ℕ) → best ≤ after → Measured starts heads cover on most best k i →
-    (FreeNode cover on (getD heads i 0) → (m : ℕ) → m ≤ most - 1 → Outward starts heads cover (on ++ (getD heads i 0 ∷ [])) (getD heads i 0) m → m + 1 ≤ after) →
-    Measured starts heads cover on most after k (i + 1)
+      (best after k i : ℕ) → best ≤ after → Measured starts heads cover on most best k i →
+      (FreeNode cover on (getD heads i 0) → (m : ℕ) → m ≤ most - 1 → Outward starts heads cover (on ++ (getD heads i 0 ∷ [])) (getD heads i 0) m → m + 1 ≤ after) →
+      Measured starts heads cover on most after k (i + 1)
   measured-more best after k i h t n =
       record {
         below =
-          λ j b l.
+            λ j b l.
             below-more
             (λ (x : ℕ). k ≤ x → FreeNode cover on (getD heads x 0) → (m : ℕ) → m ≤ most - 1 → Outward starts heads cover (on ++ (getD heads x 0 ∷ [])) (getD heads x 0) m → m + 1 ≤ after)
-            i (λ x c d f m e o. omega (arith, t .below x d c f m e o)) (λ d. n) j l b
+            i (λ x c d f m e o. omega (arith, t .below x d c f m e o)) (λ d. n) j l b;
       }
 
 -- the best so far, at place i of a's row
@@ -181,7 +181,7 @@ module _ (starts heads cover on : List ℕ) (most a end : ℕ) where
         to = h;
         measured = subst (λ (x : ℕ). Measured starts heads cover on most 0 x i) e (measured-none starts heads cover on most 0 i);
         reached = ends (record { none = refl });
-        short = omega arith
+        short = omega arith;
       }
 
   module _ (i best : ℕ) (b : Best starts heads cover on most a end i best) (h : i < end) where
@@ -192,11 +192,11 @@ module _ (starts heads cover on : List ℕ) (most a end : ℕ) where
           to = omega arith;
           measured = measured-more starts heads cover on most best best (getD starts a 0) i (omega arith) (b .measured) (λ f. absurd (n f));
           reached = b .reached;
-          short = b .short
+          short = b .short;
         }
 
     module _ (g : Rising starts heads) (last : end ≡ getD starts (a + 1) 0) (some : most ≢ 0) (f : FreeNode cover on (getD heads i 0)) (found after : ℕ)
-      (l : Longest starts heads cover (on ++ (getD heads i 0 ∷ [])) (getD heads i 0) (most - 1) found) (w : Larger best (found + 1) after) where
+        (l : Longest starts heads cover (on ++ (getD heads i 0 ∷ [])) (getD heads i 0) (most - 1) found) (w : Larger best (found + 1) after) where
       pub best-reached : Outward starts heads cover on a after
       best-reached = by (w .one)
         where
@@ -223,9 +223,9 @@ module _ (starts heads cover on : List ℕ) (most a end : ℕ) where
             from = omega (arith, b .from);
             to = omega arith;
             measured =
-              measured-more starts heads cover on most best after (getD starts a 0) i (w .left) (b .measured) (λ k m c o. omega (arith, l .bound m c o, w .right));
+                measured-more starts heads cover on most best after (getD starts a 0) i (w .left) (b .measured) (λ k m c o. omega (arith, l .bound m c o, w .right));
             reached = best-reached;
-            short = best-short
+            short = best-short;
           }
 
   pub best-is : (best : ℕ) → Best starts heads cover on most a end end best → end ≡ getD starts (a + 1) 0 → Longest starts heads cover on a most best
@@ -236,11 +236,13 @@ module _ (starts heads cover on : List ℕ) (most a end : ℕ) where
       by m h (inr w) =
           let at : ℕ = w .next .place in
           let e : w .node ≡ getD heads at 0 = sym (w .next .head) in
-          omega
-          (arith, w .fewer,
-          b .measured .below at (w .next .owned .from) (omega (arith, w .next .owned .below)) (subst (FreeNode cover on) e (record { dropped = w .free; new = w .new })) (w .left)
-          (omega (arith, w .fewer))
-          (subst (λ (x : ℕ). Outward starts heads cover (on ++ (x ∷ [])) x (w .left)) e (w .rest)))
+          omega (
+            arith,
+            w .fewer,
+            b .measured .below at (w .next .owned .from) (omega (arith, w .next .owned .below)) (subst (FreeNode cover on) e (record { dropped = w .free; new = w .new })) (w .left)
+                (omega (arith, w .fewer))
+                (subst (λ (x : ℕ). Outward starts heads cover (on ++ (x ∷ [])) x (w .left)) e (w .rest)),
+          )
 
   pub longest-most : (best : ℕ) → most ≤ best → best ≤ most → Outward starts heads cover on a best → Longest starts heads cover on a most best
   longest-most best h l r = record { reached = r; short = l; bound = λ m b o. omega arith }
@@ -252,5 +254,19 @@ pub longest-none : (starts heads cover on : List ℕ) (a most : ℕ) → most �
 longest-none starts heads cover on a most e = record { reached = ends (record { none = refl }); short = omega arith; bound = λ m h o. omega arith }
 
 pub longest-carried :
-  (starts heads cover on on′ : List ℕ) (a v most r : ℕ) → on′ ≡ on ++ (v ∷ []) → a ≡ v → Longest starts heads cover on′ a most r → Longest starts heads cover (on ++ (v ∷ [])) v most r
+    (starts heads cover on on′ : List ℕ) (a v most r : ℕ) → on′ ≡ on ++ (v ∷ []) → a ≡ v → Longest starts heads cover on′ a most r → Longest starts heads cover (on ++ (v ∷ [])) v most r
 longest-carried starts heads cover on on′ a v most r e f l = subst₂ (λ (k : List ℕ) (x : ℕ). Longest starts heads cover k x most r) e f l
+
+-- One node more on the path: what can come onto it at its outward end is no more than before.
+pub within-longer :
+    (starts heads cover on on′ : List ℕ) (last most r v : ℕ) → on′ ≡ on ++ (v ∷ []) → Within starts heads cover on last most r → Within starts heads cover on′ last (most - 1) r
+within-longer starts heads cover on on′ last most r v e w =
+    subst (λ (l : List ℕ). Within starts heads cover l last (most - 1) r) (sym e)
+    (record { bound = λ m h o. w .bound m (omega arith) (fewer-on on (λ x k. mem-left x on (v ∷ []) k) o) })
+
+pub within-of : (starts heads cover on : List ℕ) (last most r : ℕ) → Longest starts heads cover on last most r → Within starts heads cover on last most r
+within-of starts heads cover on last most r l = record { bound = l .bound }
+
+-- more are missing than can come
+pub out-of-reach : (starts heads cover on : List ℕ) (last most r : ℕ) → Within starts heads cover on last most r → r < most → OutwardFrom starts heads cover last on most → ⊥
+out-of-reach starts heads cover on last most r w h o = omega (arith, w .bound most (omega arith) (o .outward))

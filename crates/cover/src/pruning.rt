@@ -2,6 +2,7 @@
 // The weights are lent so that the contracts can name the graph; no answer depends on them.
 use crate::Trail;
 use crate::search::inward;
+use crate::search::longest;
 use road::NodeCount;
 use road::wide;
 ghost use Prim.Native.Nat.{_≤_, _<_};
@@ -30,6 +31,11 @@ fn is_needed(
     ensures { λ r. ⌜ Tells r (Needed (PathOf (road (now (starts .entry)) (now (heads .entry)) (now (weights .entry))) (k .0)) (now (cover .entry)) v) ⌝ }
 {
     let trail = Trail::of(v);
+    let most = NodeCount(k.0 - 1);
+    let reach = longest(starts, heads, cover, trail, wide(v), most);
+    if reach.0 == most.0 {
+        return true;
+    }
     inward(
         starts,
         heads,
@@ -39,7 +45,8 @@ fn is_needed(
         trail,
         wide(v),
         wide(v),
-        NodeCount(k.0 - 1),
+        most,
+        reach,
     )
 }
 

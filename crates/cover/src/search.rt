@@ -6,7 +6,7 @@ use road::wide;
 ghost use Prim.Native.Nat.{_+_, _≤_, _<_};
 ghost use lib.ListN.{length};
 ghost use Rattle.road.specs.Refusals.{Tells};
-ghost use Rattle.cover.specs.Search.{FreeNode, Inward, Larger, Longest, Outward, Searchable};
+ghost use Rattle.cover.specs.Search.{FreeNode, Inward, Larger, Longest, Outward, Searchable, Within};
 ghost use Rattle.cover.specs.Trails.{onTrail};
 
 // Whether v is dropped and not on the path yet.
@@ -75,7 +75,14 @@ fn larger(a: usize, b: usize) -> usize
 }
 
 // How many nodes can come onto the path at its outward end, up to `most`.
-pub fn longest(starts: &[u32], heads: &[u32], cover: &[u8], t: Trail, last: usize, most: NodeCount) -> NodeCount
+pub fn longest(
+    starts: &[u32],
+    heads: &[u32],
+    cover: &[u8],
+    t: Trail,
+    last: usize,
+    most: NodeCount,
+) -> NodeCount
     requires { ⌜ Searchable (now starts) (now heads) (length (now cover)) ⌝ }
     requires { ⌜ last < length (now cover) ⌝ }
     requires { ⌜ t .count .0 + most .0 ≤ 32 ⌝ }
@@ -104,7 +111,8 @@ pub fn longest(starts: &[u32], heads: &[u32], cover: &[u8], t: Trail, last: usiz
 }
 
 // At the inward end, over the graph turned round, and where that leads no further at the outward
-// end.
+// end. There no more than `reach` nodes can come onto the path, so that end need not be tried
+// where more are missing.
 pub fn inward(
     starts: &[u32],
     heads: &[u32],
@@ -115,12 +123,14 @@ pub fn inward(
     first: usize,
     last: usize,
     missing: NodeCount,
+    reach: NodeCount,
 ) -> bool
     requires { ⌜ Searchable (now starts) (now heads) (length (now cover)) ⌝ }
     requires { ⌜ Searchable (now «starts_back») (now «heads_back») (length (now cover)) ⌝ }
     requires { ⌜ first < length (now cover) ⌝ }
     requires { ⌜ last < length (now cover) ⌝ }
     requires { ⌜ t .count .0 + missing .0 ≤ 32 ⌝ }
+    requires { ⌜ Within (now starts) (now heads) (now cover) (onTrail t) last (missing .0) (reach .0) ⌝ }
     ensures { λ r. ⌜ Tells r (Inward (now (starts .entry)) (now (heads .entry)) (now («starts_back» .entry)) (now («heads_back» .entry)) (now (cover .entry)) last (onTrail t) first (missing .0)) ⌝ }
 {
     if missing.0 == 0 {
@@ -143,11 +153,15 @@ pub fn inward(
                 wide(v),
                 last,
                 NodeCount(missing.0 - 1),
+                reach,
             ) {
                 return true;
             }
         }
         i += 1;
+    }
+    if reach.0 < missing.0 {
+        return false;
     }
     outward(starts, heads, cover, t, last, missing)
 }

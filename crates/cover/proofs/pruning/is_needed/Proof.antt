@@ -1,5 +1,7 @@
 use Rattle.cover.proofs.Completing.{needed-told}
-use Rattle.cover.proofs.Searching.{search-forth, search-back}
+use Rattle.cover.proofs.Searching.{search-forth, search-back, within-of}
+use Rattle.cover.specs.Search.{ends}
+use Rattle.road.proofs.Refusals.{tells-yes}
 use native.Mathlib.Omega.{arith}
 use borrow.Author.Needs.{needs}
 use Rattle.cover.proofs.pruning.is_needed.Statement.{statement}
@@ -8,35 +10,65 @@ use Rattle.cover.proofs.pruning.is_needed.Tie as tie
 of-requires : tie.Need-of-requires
 of-requires c κs = search needs
 
+sub-longest : tie.Need-sub-longest
+sub-longest c = search needs
+
 wide-requires : tie.Need-wide-requires
 wide-requires c κs = search needs
 
-wide-requires-2 : tie.Need-wide-requires-2
-wide-requires-2 c κs = search needs
-
-sub-t13 : tie.Need-sub-t13
-sub-t13 c = search needs
-
-inward-requires : tie.Need-inward-requires
-inward-requires c κs = (
-  search-forth _ _ _ _ _ _ _ (c .before .before .before .before .before .before .before .before .before .before .before .pre .0),
+longest-requires : tie.Need-longest-requires
+longest-requires c κs = (
+  search-forth _ _ _ _ _ _ _ (c .before .before .before .before .before .before .before .before .before .before .pre .0),
   (
-    search-back _ _ _ _ _ _ _ (c .before .before .before .before .before .before .before .before .before .before .before .pre .0),
-    (
-      omega arith,
-      (
-        omega arith,
-        omega (arith, c .before .before .before .of .ensures .1, c .before .before .before .before .before .before .before .before .before .before .before .pre .1 .0 .most, c .before .before .before .before .before .before .before .before .before .before .before .pre .1 .0 .some),
-      ),
-    ),
+    omega arith,
+    omega (arith, c .before .before .of .ensures .1, c .before .before .before .before .before .before .before .before .before .before .pre .1 .0 .most, c .before .before .before .before .before .before .before .before .before .before .pre .1 .0 .some),
   ),
 )
 
 returns : tie.Need-returns
 returns c =
-    needed-told _ _ _ _ _ _ _ (c .before .before .before .before .before .before .before .before .before .before .before .before .pre .0 .sound) (c .before .before .before .before .before .before .before .before .before .before .before .before .pre .0 .turned .round) _ _ _ (omega (arith, c .before .before .before .before .before .before .before .before .before .before .before .before .pre .0 .bytes)) (c .before .before .before .before .before .before .before .before .before .before .before .before .pre .1 .0 .some)
-    (rw (c .before .before .before .before .of .ensures .0, c .before .before .before .wide .ensures, c .before .before .wide2 .ensures) at (c .inward .ensures))
+    needed-told _ _ _ _ _ _ _ (c .before .before .before .before .before .before .before .before .before .before .before .before .before .before .pre .0 .sound) (c .before .before .before .before .before .before .before .before .before .before .before .before .before .before .pre .0 .turned .round) _ _ _ (omega (arith, c .before .before .before .before .before .before .before .before .before .before .before .before .before .before .pre .0 .bytes, c .before .before .before .before .before .before .before .before .before .before .before .before .before .before .pre .1 .1)) (c .before .before .before .before .before .before .before .before .before .before .before .before .before .before .pre .1 .0 .some)
+    (tells-yes (ends (record { outward = rw (c .before .before .before .before .before .before .of .ensures .0, c .before .before .before .before .wide .ensures, c .if1 .taken) at (c .before .before .before .longest .ensures .reached) })))
+
+wide-requires-2 : tie.Need-wide-requires-2
+wide-requires-2 c κs = search needs
+
+wide-requires-3 : tie.Need-wide-requires-3
+wide-requires-3 c κs = search needs
+
+inward-requires : tie.Need-inward-requires
+inward-requires c κs = (
+  search-forth _ _ _ _ _ _ _ (c .before .before .before .before .before .before .before .before .before .before .before .before .before .before .before .before .pre .0),
+  (
+    search-back _ _ _ _ _ _ _ (c .before .before .before .before .before .before .before .before .before .before .before .before .before .before .before .before .pre .0),
+    (
+      omega arith,
+      (
+        omega arith,
+        (
+          omega (arith, c .before .before .before .before .before .before .before .before .of .ensures .1, c .before .before .before .before .before .before .before .before .before .before .before .before .before .before .before .before .pre .1 .0 .most, c .before .before .before .before .before .before .before .before .before .before .before .before .before .before .before .before .pre .1 .0 .some),
+          rw (c .wide3 .ensures) (rw (c .before .before .before .before .before .before .wide .ensures) at (within-of _ _ _ _ _ _ _ (c .before .before .before .before .before .longest .ensures))),
+        ),
+      ),
+    ),
+  ),
+)
+
+returns-2 : tie.Need-returns-2
+returns-2 c =
+    needed-told _ _ _ _ _ _ _ (c .before .before .before .before .before .before .before .before .before .before .before .before .before .before .before .before .before .pre .0 .sound) (c .before .before .before .before .before .before .before .before .before .before .before .before .before .before .before .before .before .pre .0 .turned .round) _ _ _ (omega (arith, c .before .before .before .before .before .before .before .before .before .before .before .before .before .before .before .before .before .pre .0 .bytes, c .before .before .before .before .before .before .before .before .before .before .before .before .before .before .before .before .before .pre .1 .1)) (c .before .before .before .before .before .before .before .before .before .before .before .before .before .before .before .before .before .pre .1 .0 .some)
+    (rw (c .before .before .before .before .before .before .before .before .before .of .ensures .0, c .before .before .wide2 .ensures, c .before .wide3 .ensures) at (c .inward .ensures))
 
 pub is-needed-spec : {M : Type 1} → statement M
 is-needed-spec =
-    tie.close (tie.spec of-requires wide-requires wide-requires-2 sub-t13 inward-requires returns)
+    tie.close
+    (tie.spec
+    of-requires
+    sub-longest
+    wide-requires
+    longest-requires
+    returns
+    wide-requires-2
+    wide-requires-3
+    inward-requires
+    returns-2)

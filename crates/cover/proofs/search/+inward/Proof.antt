@@ -10,7 +10,7 @@ use Rattle.road.proofs.Refusals.{tells-yes, tells-no}
 use Rattle.cover.specs.Rule.{Dropped}
 use Rattle.cover.specs.Search.{OutwardFrom, Completes, ends}
 use Rattle.cover.specs.Trails.{onTrail}
-use Rattle.cover.proofs.Searching.{Tried, tried-none, tried-more, tried-to, leads, last-resort, row-bounds, place-listed, head-node, carried}
+use Rattle.cover.proofs.Searching.{Tried, tried-none, tried-more, tried-to, leads, last-resort, none-leads, within-longer, out-of-reach, row-bounds, place-listed, head-node, carried}
 use borrow.Fn.Kinds.{In}
 use borrow.Fn.PlainCycle.{Measures, is, falls, and}
 use Rattle.cover.proofs.search.inward.Reads as inward
@@ -36,11 +36,11 @@ abbrev calls : ℕ → inward-lts.Claims
 calls t = (wide-reads.Asked, wide-reads.Learnt, is-free-reads.Asked, is-free-reads.Learnt, push-reads.Asked, push-reads.Learnt, inward-below t, inward.Post, outward-reads.Asked, outward-reads.Learnt)
 
 abbrev Inv : inward-lts.InvT-loop
-Inv starts heads starts-back heads-back cover t first last missing end i₀ i =
+Inv starts heads starts-back heads-back cover t first last missing reach end i₀ i =
     (getD starts-back first 0 ≤ i) × (i ≤ end) × Tried (OutwardFrom starts heads cover last) starts-back heads-back cover (onTrail t) (missing .0 - 1) (getD starts-back first 0) i
 
 abbrev μ : inward-lts.MeasureT-loop
-μ starts heads starts-back heads-back cover t first last missing end i₀ i = end - i
+μ starts heads starts-back heads-back cover t first last missing reach end i₀ i = end - i
 
 returns : (t : ℕ) → inward-lts.Need-returns (calls t) (inward-at t) inward.Post Inv μ
 returns t c = tells-yes (ends (record { outward = ends (record { none = c .if1 .taken }) }))
@@ -84,8 +84,8 @@ push-requires t c κs = search needs
 wide-requires-3 : (t : ℕ) → inward-lts.Need-wide-requires-3 (calls t) (inward-at t) inward.Post Inv μ
 wide-requires-3 t c κs = search needs
 
-sub-t28 : (t : ℕ) → inward-lts.Need-sub-t28 (calls t) (inward-at t) inward.Post Inv μ
-sub-t28 t c = search needs
+sub-t29 : (t : ℕ) → inward-lts.Need-sub-t29 (calls t) (inward-at t) inward.Post Inv μ
+sub-t29 t c = search needs
 
 again-requires : (t : ℕ) → inward-lts.Need-inward-requires (calls t) (inward-at t) inward.Post Inv μ
 again-requires t c κs = (
@@ -98,7 +98,10 @@ again-requires t c κs = (
         omega (arith, head-node _ _ _ _ _ (c .before .before .before .before .before .before .before .before .before .before .before .before .before .before .before .before .before .before .before .before .pre .1 .1 .0) (c .before .before .before .before .before .before .before .before .loop .inv .0) (omega arith), c .before .wide3 .ensures),
         (
           c .before .before .before .before .before .before .before .before .before .before .before .before .before .before .before .before .before .before .before .before .pre .1 .1 .1 .1 .0,
-          omega (arith, c .before .before .before .before .before .before .before .before .before .before .before .before .before .before .before .before .before .before .before .before .pre .1 .1 .1 .1 .1, c .before .before .before .before .before .before .before .before .before .before .before .before .before .if1 .left, c .before .before .before .push .ensures .longer (omega (arith, c .before .before .before .before .before .before .before .before .before .before .before .before .before .before .before .before .before .before .before .before .pre .1 .1 .1 .1 .1, c .before .before .before .before .before .before .before .before .before .before .before .before .before .if1 .left)) .2),
+          (
+            omega (arith, c .before .before .before .before .before .before .before .before .before .before .before .before .before .before .before .before .before .before .before .before .pre .1 .1 .1 .1 .1 .0, c .before .before .before .before .before .before .before .before .before .before .before .before .before .if1 .left, c .before .before .before .push .ensures .longer (omega (arith, c .before .before .before .before .before .before .before .before .before .before .before .before .before .before .before .before .before .before .before .before .pre .1 .1 .1 .1 .1 .0, c .before .before .before .before .before .before .before .before .before .before .before .before .before .if1 .left)) .2),
+            within-longer _ _ _ _ _ _ _ _ _ (c .before .before .before .push .ensures .longer (omega (arith, c .before .before .before .before .before .before .before .before .before .before .before .before .before .before .before .before .before .before .before .before .pre .1 .1 .1 .1 .1 .0, c .before .before .before .before .before .before .before .before .before .before .before .before .before .if1 .left)) .1) (c .before .before .before .before .before .before .before .before .before .before .before .before .before .before .before .before .before .before .before .before .pre .1 .1 .1 .1 .1 .1),
+          ),
         ),
       ),
     ),
@@ -109,7 +112,7 @@ returns-2 : (t : ℕ) → inward-lts.Need-returns-2 (calls t) (inward-at t) inwa
 returns-2 t c =
     tells-yes
     (leads _ _ _ _ _ (c .before .before .before .before .before .before .before .before .before .before .before .before .before .before .before .before .before .before .before .before .before .before .pre .1 .1 .0 .rising) _ _ (c .before .before .before .before .before .before .before .before .before .before .before .before .before .before .before .if1 .left) _ (c .before .before .before .before .before .before .before .before .before .before .loop .inv .0) (omega arith) (c .before .before .before .before .before .before .before .is-free .ensures .yes (c .before .before .before .before .before .before .if2 .taken))
-    (carried (λ (l : List ℕ) (x : ℕ). Completes (Joined (c .before .before .before .before .before .before .before .before .before .before .before .before .before .before .before .before .before .before .before .before .before .before .args .starts-back .now) (c .before .before .before .before .before .before .before .before .before .before .before .before .before .before .before .before .before .before .before .before .before .before .args .heads-back .now)) (Dropped (c .before .before .before .before .before .before .before .before .before .before .before .before .before .before .before .before .before .before .before .before .before .before .args .cover .now)) (OutwardFrom (c .before .before .before .before .before .before .before .before .before .before .before .before .before .before .before .before .before .before .before .before .before .before .args .starts .now) (c .before .before .before .before .before .before .before .before .before .before .before .before .before .before .before .before .before .before .before .before .before .before .args .heads .now) (c .before .before .before .before .before .before .before .before .before .before .before .before .before .before .before .before .before .before .before .before .before .before .args .cover .now) (c .before .before .before .before .before .before .before .before .before .before .before .before .before .before .before .before .before .before .before .before .before .before .args .last)) l x (c .before .before .before .before .before .before .before .before .before .before .before .before .before .before .before .before .before .before .before .before .before .before .args .missing .0 - 1)) (onTrail (c .before .before .before .before .before .before .before .before .before .before .before .before .before .before .before .before .before .before .before .before .before .before .args .t)) (c .before .before .before .before .before .push .ensures .longer (omega (arith, c .before .before .before .before .before .before .before .before .before .before .before .before .before .before .before .before .before .before .before .before .before .before .pre .1 .1 .1 .1 .1, c .before .before .before .before .before .before .before .before .before .before .before .before .before .before .before .if1 .left)) .1) (c .before .before .before .wide3 .ensures) (c .before .inward .ensures) .yes (c .if3 .taken)))
+    (carried (λ (l : List ℕ) (x : ℕ). Completes (Joined (c .before .before .before .before .before .before .before .before .before .before .before .before .before .before .before .before .before .before .before .before .before .before .args .starts-back .now) (c .before .before .before .before .before .before .before .before .before .before .before .before .before .before .before .before .before .before .before .before .before .before .args .heads-back .now)) (Dropped (c .before .before .before .before .before .before .before .before .before .before .before .before .before .before .before .before .before .before .before .before .before .before .args .cover .now)) (OutwardFrom (c .before .before .before .before .before .before .before .before .before .before .before .before .before .before .before .before .before .before .before .before .before .before .args .starts .now) (c .before .before .before .before .before .before .before .before .before .before .before .before .before .before .before .before .before .before .before .before .before .before .args .heads .now) (c .before .before .before .before .before .before .before .before .before .before .before .before .before .before .before .before .before .before .before .before .before .before .args .cover .now) (c .before .before .before .before .before .before .before .before .before .before .before .before .before .before .before .before .before .before .before .before .before .before .args .last)) l x (c .before .before .before .before .before .before .before .before .before .before .before .before .before .before .before .before .before .before .before .before .before .before .args .missing .0 - 1)) (onTrail (c .before .before .before .before .before .before .before .before .before .before .before .before .before .before .before .before .before .before .before .before .before .before .args .t)) (c .before .before .before .before .before .push .ensures .longer (omega (arith, c .before .before .before .before .before .before .before .before .before .before .before .before .before .before .before .before .before .before .before .before .before .before .pre .1 .1 .1 .1 .1 .0, c .before .before .before .before .before .before .before .before .before .before .before .before .before .before .before .if1 .left)) .1) (c .before .before .before .wide3 .ensures) (c .before .inward .ensures) .yes (c .if3 .taken)))
 
 add-i : (t : ℕ) → inward-lts.Need-add-i (calls t) (inward-at t) inward.Post Inv μ
 add-i t c = search needs
@@ -123,16 +126,19 @@ loop-again t c = (
   omega arith,
   tried-more _ _ _ _ _ _ _ _ (c .before .before .before .before .loop .inv .2)
       (λ f r. ⊎-elim
-      (λ w. carried (λ (l : List ℕ) (x : ℕ). Completes (Joined (c .before .before .before .before .before .before .before .before .before .before .before .before .before .before .before .before .args .starts-back .now) (c .before .before .before .before .before .before .before .before .before .before .before .before .before .before .before .before .args .heads-back .now)) (Dropped (c .before .before .before .before .before .before .before .before .before .before .before .before .before .before .before .before .args .cover .now)) (OutwardFrom (c .before .before .before .before .before .before .before .before .before .before .before .before .before .before .before .before .args .starts .now) (c .before .before .before .before .before .before .before .before .before .before .before .before .before .before .before .before .args .heads .now) (c .before .before .before .before .before .before .before .before .before .before .before .before .before .before .before .before .args .cover .now) (c .before .before .before .before .before .before .before .before .before .before .before .before .before .before .before .before .args .last)) l x (c .before .before .before .before .before .before .before .before .before .before .before .before .before .before .before .before .args .missing .0 - 1)) (onTrail (c .before .before .before .before .before .before .before .before .before .before .before .before .before .before .before .before .args .t)) (w .1 .ensures .longer (omega (arith, c .before .before .before .before .before .before .before .before .before .before .before .before .before .before .before .before .pre .1 .1 .1 .1 .1, c .before .before .before .before .before .before .before .before .before .if1 .left)) .1) (w .3 .ensures) (w .5 .ensures) .no (w .6 .left) r)
+      (λ w. carried (λ (l : List ℕ) (x : ℕ). Completes (Joined (c .before .before .before .before .before .before .before .before .before .before .before .before .before .before .before .before .args .starts-back .now) (c .before .before .before .before .before .before .before .before .before .before .before .before .before .before .before .before .args .heads-back .now)) (Dropped (c .before .before .before .before .before .before .before .before .before .before .before .before .before .before .before .before .args .cover .now)) (OutwardFrom (c .before .before .before .before .before .before .before .before .before .before .before .before .before .before .before .before .args .starts .now) (c .before .before .before .before .before .before .before .before .before .before .before .before .before .before .before .before .args .heads .now) (c .before .before .before .before .before .before .before .before .before .before .before .before .before .before .before .before .args .cover .now) (c .before .before .before .before .before .before .before .before .before .before .before .before .before .before .before .before .args .last)) l x (c .before .before .before .before .before .before .before .before .before .before .before .before .before .before .before .before .args .missing .0 - 1)) (onTrail (c .before .before .before .before .before .before .before .before .before .before .before .before .before .before .before .before .args .t)) (w .1 .ensures .longer (omega (arith, c .before .before .before .before .before .before .before .before .before .before .before .before .before .before .before .before .pre .1 .1 .1 .1 .1 .0, c .before .before .before .before .before .before .before .before .before .if1 .left)) .1) (w .3 .ensures) (w .5 .ensures) .no (w .6 .left) r)
       (λ w. c .before .is-free .ensures .no (w .left) f) (c .if2 .came)),
 )
 
-outward-requires : (t : ℕ) → inward-lts.Need-outward-requires (calls t) (inward-at t) inward.Post Inv μ
-outward-requires t c κs = (c .before .before .before .before .before .before .before .before .before .before .before .before .before .pre .1 .0, (c .before .before .before .before .before .before .before .before .before .before .before .before .before .pre .1 .1 .1 .1 .0, c .before .before .before .before .before .before .before .before .before .before .before .before .before .pre .1 .1 .1 .1 .1))
-
 returns-3 : (t : ℕ) → inward-lts.Need-returns-3 (calls t) (inward-at t) inward.Post Inv μ
-returns-3 t c =
-    last-resort _ _ _ _ _ (c .before .before .before .before .before .before .before .before .before .before .before .before .before .before .pre .1 .1 .0 .rising) _ _ (c .before .before .before .before .before .before .before .if1 .left) (tried-to _ _ _ _ _ _ _ _ _ (omega arith) (c .before .before .loop .inv .2))
+returns-3 t c = tells-no (none-leads _ _ _ _ _ (c .before .before .before .before .before .before .before .before .before .before .before .before .before .before .before .before .pre .1 .1 .0 .rising) _ _ (c .before .before .before .before .before .before .before .before .before .if1 .left) (tried-to _ _ _ _ _ _ _ _ _ (omega arith) (c .before .before .before .before .loop .inv .2)) (out-of-reach _ _ _ _ _ _ _ (c .before .before .before .before .before .before .before .before .before .before .before .before .before .before .before .before .pre .1 .1 .1 .1 .1 .1) (omega arith)))
+
+outward-requires : (t : ℕ) → inward-lts.Need-outward-requires (calls t) (inward-at t) inward.Post Inv μ
+outward-requires t c κs = (c .before .before .before .before .before .before .before .before .before .before .before .before .before .before .before .before .pre .1 .0, (c .before .before .before .before .before .before .before .before .before .before .before .before .before .before .before .before .pre .1 .1 .1 .1 .0, c .before .before .before .before .before .before .before .before .before .before .before .before .before .before .before .before .pre .1 .1 .1 .1 .1 .0))
+
+returns-4 : (t : ℕ) → inward-lts.Need-returns-4 (calls t) (inward-at t) inward.Post Inv μ
+returns-4 t c =
+    last-resort _ _ _ _ _ (c .before .before .before .before .before .before .before .before .before .before .before .before .before .before .before .before .before .pre .1 .1 .0 .rising) _ _ (c .before .before .before .before .before .before .before .before .before .before .if1 .left) (tried-to _ _ _ _ _ _ _ _ _ (omega arith) (c .before .before .before .before .before .loop .inv .2))
     (record { yes = λ e. record { outward = c .outward .ensures .yes e }; no = λ e o. c .outward .ensures .no e (o .outward) })
 
 pub +inward-spec : {M : Type 1} → statement M
@@ -155,11 +161,12 @@ pub +inward-spec : {M : Type 1} → statement M
     (is-free-requires t)
     (push-requires t)
     (wide-requires-3 t)
-    (sub-t28 t)
+    (sub-t29 t)
     (again-requires t)
     (returns-2 t)
     (add-i t)
     (loop-less t)
     (loop-again t)
-    (outward-requires t)
     (returns-3 t)
+    (outward-requires t)
+    (returns-4 t)
