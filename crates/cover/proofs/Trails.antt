@@ -3,7 +3,8 @@ use mathlib.Core.Path.{_≡_, refl, sym, ap, subst, _∙_}
 use mathlib.Core.Bool.{true, false}
 use mathlib.Core.Logic.{_≢_}
 use mathlib.Core.List.{List, [], _∷_, _++_}
-use Prim.Native.Nat.{ℕ, _+_, _≤_, _<_}
+use Prim.Native.Nat.{ℕ, _+_, _-_, _≤_, _<_}
+use native.Mathlib.Decide.{ℕ-discrete}
 use native.Mathlib.Numerals.{add-one}
 use native.Mathlib.Omega.{arith}
 use lib.ListN.{length, getD, set, take}
@@ -36,8 +37,17 @@ module _ (nodes : List ℕ) (count v : ℕ) (long : length nodes ≡ 32) (few : 
       subst (λ (x : ℕ). Mem x (take count nodes)) (getD-take count nodes i 0 h ∙ e)
       (mem-at (take count nodes) i (omega (arith, length-take-le count nodes (omega arith))))
 
-  pub not-met : (i : ℕ) → count ≤ i → ((j : ℕ) → j < i → getD nodes j 0 ≢ v) → Mem v (take count nodes) → ⊥
-  not-met i h f m =
+  -- the nodes from place i on are others
+  pub not-met : ((j : ℕ) → 0 ≤ j → j < count → getD nodes j 0 ≢ v) → Mem v (take count nodes) → ⊥
+  not-met f m =
       let p = place-of v (take count nodes) m in
       let l : p .0 < count = omega (arith, p .1, length-take-le count nodes (omega arith)) in
-      f (p .0) (omega arith) (sym (getD-take count nodes (p .0) 0 l) ∙ p .2)
+      f (p .0) (omega arith) l (sym (getD-take count nodes (p .0) 0 l) ∙ p .2)
+
+-- one place further to the front
+pub others-more : (nodes : List ℕ) (count v i : ℕ) → 0 < i → ((j : ℕ) → i ≤ j → j < count → getD nodes j 0 ≢ v) → getD nodes (i - 1) 0 ≢ v → (j : ℕ) → i - 1 ≤ j → j < count → getD nodes j 0 ≢ v
+others-more nodes count v i h f n j l b = by (ℕ-discrete j (i - 1))
+  where
+    by : Dec (j ≡ i - 1) → getD nodes j 0 ≢ v
+    by (yes e) z = n (ap (λ (x : ℕ). getD nodes x 0) (sym e) ∙ z)
+    by (no d) z = f j (omega (arith, d)) b z

@@ -44,19 +44,19 @@ impl Trail {
         }
     }
 
-    // Whether a node is on it.
+    // Whether a node is on it. The node that one came from is met most often, so it is looked for
+    // from the back.
     pub fn has(self, v: u32) -> bool
         requires { ⌜ self .count .0 ≤ 32 ⌝ }
         ensures { λ r. ⌜ Tells r (Mem v (onTrail self)) ⌝ }
     {
         let nodes = self.nodes;
-        let count = self.count.0;
-        let mut i = 0;
-        while i < count {
+        let mut i = self.count.0;
+        while 0 < i {
+            i -= 1;
             if nodes[i] == v {
                 return true;
             }
-            i += 1;
         }
         false
     }
