@@ -1,0 +1,3 @@
+-- The laws of the queue and of the search.
+pub mod Zeros
+pub mod Heaps

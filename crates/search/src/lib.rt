@@ -1,0 +1,2 @@
+// One search: the least weights from a source over paths with no blocked node strictly inside.
+mod queue;
