@@ -1,0 +1,382 @@
+-- Offers, and what holds when nothing waits.
+use mathlib.Core.Path.{_≡_, refl, sym, ap, subst, subst₂, _∙_}
+use mathlib.Core.Logic.{_⊎_, inl, inr, ⊎-elim, _≢_}
+use mathlib.Core.List.{List, [], _∷_}
+use Prim.Native.Nat.{ℕ, zero, suc, _+_, _-_, _*_, _≤_, _<_}
+use native.Mathlib.Decide.{decLt, ℕ-discrete}
+use native.Mathlib.Nat.{mul-le-mul-right}
+use native.Mathlib.Omega.{arith}
+use lib.ListN.{length, getD, set, replicate, length-set, length-replicate}
+use lib.Seq.{getD-set-same, getD-set-other}
+use Rattle.paths.specs.Graphs.{Graph, Along, stop, step, IsPath, Reaches, Walks}
+use Rattle.paths.specs.Least.{Told, Least, Empty}
+use Rattle.paths.specs.Lists.{Inside}
+use Rattle.paths.proofs.Ways.{walks-joined, path-within, weighing}
+use Rattle.road.specs.Limits.{overlayLimits, mostNodes}
+use Rattle.road.specs.Roads.{nodesOf, Owns, Arc, road, Sound}
+use Rattle.road.proofs.Zeros.{zeros-at}
+use Rattle.search.specs.Queue.{zeros, Heap, Waits, Sooner, With, Without}
+use Rattle.search.specs.Rows.{Free, Row}
+use Rattle.search.specs.States.{Open, Reached, State, Closed, Labelled, All, Upto, Offered, refused, taken, heavy, mass, Going}
+use Rattle.search.proofs.Zeros.{zeros-short, one-fewer, as-many}
+
+mass-set : (l : List ℕ) (i v : ℕ) → i < length l → mass (set l i v) + heavy (getD l i 0) ≡ mass l + heavy v
+mass-set [] i v h = absurd (omega arith)
+mass-set (x ∷ l) zero v h = omega arith
+mass-set (x ∷ l) (suc i) v h = omega (arith, mass-set l i v (omega arith))
+
+heavy-none : (x : ℕ) → x ≡ 0 → heavy x ≡ 20000000000000
+heavy-none zero e = refl
+heavy-none (suc x) e = absurd (omega arith)
+
+heavy-some : (x : ℕ) → x ≢ 0 → heavy x ≡ x
+heavy-some zero n = absurd (n refl)
+heavy-some (suc x) n = refl
+
+-- a label that is taken weighs less than what was there
+pub mass-falls : (labels : List ℕ) (v x : ℕ) → v < length labels → x ≢ 0 → x < 20000000000000 → Sooner x (getD labels v 0) → mass (set labels v x) + 1 ≤ mass labels
+mass-falls labels v x h n b s = by s (ℕ-discrete (getD labels v 0) 0)
+  where
+    by : Sooner x (getD labels v 0) → Dec (getD labels v 0 ≡ 0) → mass (set labels v x) + 1 ≤ mass labels
+    by t (yes e) = omega (arith, mass-set labels v x h, heavy-none (getD labels v 0) e, heavy-some x n)
+    by (inl e) (no d) = absurd (d e)
+    by (inr l) (no d) = omega (arith, mass-set labels v x h, heavy-some (getD labels v 0) d, heavy-some x n)
+
+module _ (starts heads weights blocked : List ℕ) (source : ℕ) (labels : List ℕ) (g : State starts heads weights blocked source labels) where
+  -- a label is small, and so is one more step
+  pub label-small : (v : ℕ) → getD labels v 0 ≤ 16773120000001
+  label-small v =
+      omega (arith, g .small v, mul-le-mul-right 4095000000 nodes)
+    where
+      nodes : nodesOf starts ≤ 4096
+      nodes = omega (arith, g .sound-graph .sized .most)
+
+  -- the label that an arc offers
+  module _ (u v w : ℕ) (a : Arc starts heads weights u v w) (some : getD labels u 0 ≢ 0) (o : Open blocked source u) where
+    light : w ≤ 4095000000
+    light = omega (arith, g .sound-graph .light (a .place) (a .listed), a .weight)
+
+    one-step : Walks (road starts heads weights) (Free blocked) u v w
+    one-step = record { after = v ∷ []; along = weighing (omega arith) (step a stop); inner = tt }
+
+    pub offered-walk : (d : ℕ) → getD labels u 0 + w ≡ suc d → Walks (road starts heads weights) (Free blocked) source v d
+    offered-walk d e = by o
+      where
+        at : Walks (road starts heads weights) (Free blocked) source u (getD labels u 0 - 1)
+        at = g .sound u (getD labels u 0 - 1) (omega (arith, some))
+
+        by : Open blocked source u → Walks (road starts heads weights) (Free blocked) source v d
+        by (inl s) =
+            let base = ap (λ (x : ℕ). getD labels x 0) s in
+            let same : w ≡ d = omega (arith, g .start) in
+            subst₂ (λ (x y : ℕ). Walks (road starts heads weights) (Free blocked) x v y) s same one-step
+        by (inr f) =
+            let same : getD labels u 0 - 1 + w ≡ d = omega (arith, some) in
+            subst (Walks (road starts heads weights) (Free blocked) source v) same (walks-joined at f one-step)
+
+    pub offered-node : v < length labels
+    offered-node = omega (arith, g .long, g .sound-graph .inside (a .place) (a .listed), a .head)
+
+    pub offered-small : getD labels u 0 + w < 20000000000000
+    offered-small = omega (arith, label-small u, light)
+
+    -- a label that is taken keeps the state
+    pub taken-state : Sooner (getD labels u 0 + w) (getD labels v 0) → State starts heads weights blocked source (set labels v (getD labels u 0 + w))
+    taken-state s =
+        record {
+          sound-graph = g .sound-graph;
+          node = g .node;
+          long = length-set labels v (getD labels u 0 + w) ∙ g .long;
+          start = start-by (ℕ-discrete source v);
+          sound = λ x d e. sound-by x d e (ℕ-discrete x v);
+          small = λ x. small-by x (ℕ-discrete x v) s
+        }
+      where
+        start-by : Dec (source ≡ v) → getD (set labels v (getD labels u 0 + w)) source 0 ≡ 1
+        start-by (no n) = getD-set-other labels v source (getD labels u 0 + w) 0 n ∙ g .start
+        start-by (yes e) = absurd (⊎-elim (λ z. omega (arith, ap (λ (x : ℕ). getD labels x 0) e, g .start)) (λ l. omega (arith, ap (λ (x : ℕ). getD labels x 0) e, g .start, some)) s)
+
+        sound-by : (x d : ℕ) → getD (set labels v (getD labels u 0 + w)) x 0 ≡ suc d → Dec (x ≡ v) → Walks (road starts heads weights) (Free blocked) source x d
+        sound-by x d e (yes q) =
+            subst (λ (y : ℕ). Walks (road starts heads weights) (Free blocked) source y d) (sym q)
+            (offered-walk d (sym (ap (λ (y : ℕ). getD (set labels v (getD labels u 0 + w)) y 0) q ∙ getD-set-same labels v (getD labels u 0 + w) 0 offered-node) ∙ e))
+        sound-by x d e (no n) = g .sound x d (sym (getD-set-other labels v x (getD labels u 0 + w) 0 n) ∙ e)
+
+        new-label : (x : ℕ) → x ≡ v → getD (set labels v (getD labels u 0 + w)) x 0 ≡ getD labels u 0 + w
+        new-label x q = ap (λ (y : ℕ). getD (set labels v (getD labels u 0 + w)) y 0) q ∙ getD-set-same labels v (getD labels u 0 + w) 0 offered-node
+
+        small-by : (x : ℕ) → Dec (x ≡ v) → Sooner (getD labels u 0 + w) (getD labels v 0) → getD (set labels v (getD labels u 0 + w)) x 0 + zeros (set labels v (getD labels u 0 + w)) * 4095000000 ≤ 1 + nodesOf starts * 4095000000
+        small-by x d (inl z) = by d
+          where
+            fewer : zeros (set labels v (getD labels u 0 + w)) + 1 ≡ zeros labels
+            fewer = one-fewer labels v (getD labels u 0 + w) offered-node z (λ k. omega (arith, some))
+
+            by : Dec (x ≡ v) → getD (set labels v (getD labels u 0 + w)) x 0 + zeros (set labels v (getD labels u 0 + w)) * 4095000000 ≤ 1 + nodesOf starts * 4095000000
+            by (yes q) = omega (arith, new-label x q, fewer, g .small u, light)
+            by (no n) = omega (arith, getD-set-other labels v x (getD labels u 0 + w) 0 n, fewer, g .small x)
+        small-by x d (inr l) = by d (ℕ-discrete (getD labels v 0) 0)
+          where
+            by : Dec (x ≡ v) → Dec (getD labels v 0 ≡ 0) → getD (set labels v (getD labels u 0 + w)) x 0 + zeros (set labels v (getD labels u 0 + w)) * 4095000000 ≤ 1 + nodesOf starts * 4095000000
+            by e (yes z) = absurd (omega arith)
+            by (yes q) (no k) = omega (arith, new-label x q, as-many labels v (getD labels u 0 + w) offered-node k (λ j. omega (arith, some)), g .small v)
+            by (no n) (no k) =
+                omega
+                (arith, getD-set-other labels v x (getD labels u 0 + w) 0 n, as-many labels v (getD labels u 0 + w) offered-node k (λ j. omega (arith, some)), g .small x)
+
+pub waits? : (places : List ℕ) (x : ℕ) → (getD places x 0 ≡ 0) ⊎ Waits places x
+waits? places x = by (ℕ-discrete (getD places x 0) 0)
+  where
+    by : Dec (getD places x 0 ≡ 0) → (getD places x 0 ≡ 0) ⊎ Waits places x
+    by (yes e) = inl e
+    by (no n) = inr n
+
+module _ (starts heads weights blocked : List ℕ) (source : ℕ) (labels places : List ℕ) (g : State starts heads weights blocked source labels) where
+  -- one arc more of u is closed
+  module _ (u i : ℕ) (own : Owns starts u i) (listed : i < length heads) (some : getD labels u 0 ≢ 0) (idle : getD places u 0 ≡ 0) (o : Open blocked source u)
+    (c : Closed starts heads weights blocked source labels places (Upto u i)) (labels′ places′ : List ℕ) (count count′ : ℕ)
+    (f : Offered (getD heads i 0) (getD labels u 0 + getD weights i 0) labels places count labels′ places′ count′) where
+    arc : Arc starts heads weights u (getD heads i 0) (getD weights i 0)
+    arc = record { place = i; listed = listed; owned = own; head = refl; weight = refl }
+
+    other-head : getD heads i 0 ≢ u
+    other-head = g .sound-graph .unlooped u i own
+
+    -- an arc of the places done, or the arc at place i
+    earlier : (x p : ℕ) → Upto u (i + 1) x p → Dec (x ≡ u) → Dec (p ≡ i) → ((x ≡ u) × (p ≡ i)) ⊎ Upto u i x p
+    earlier x p h (yes e) (yes q) = inl (e, q)
+    earlier x p h (yes e) (no n) = inr (λ d. omega (arith, h d, n))
+    earlier x p h (no n) d = inr (λ e. absurd (n e))
+
+    pub state-after : State starts heads weights blocked source labels′
+    state-after = by f
+      where
+        by : Offered (getD heads i 0) (getD labels u 0 + getD weights i 0) labels places count labels′ places′ count′ → State starts heads weights blocked source labels′
+        by (refused r e p q) = subst (State starts heads weights blocked source) (sym e) g
+        by (taken s e w t y q) =
+            subst (State starts heads weights blocked source) (sym e) (taken-state starts heads weights blocked source labels g u (getD heads i 0) (getD weights i 0) arc some o s)
+
+    node-in : getD heads i 0 < length labels
+    node-in = offered-node starts heads weights blocked source labels g u (getD heads i 0) (getD weights i 0) arc some o
+
+    pub label-after : getD labels′ u 0 ≡ getD labels u 0
+    label-after = by f
+      where
+        by : Offered (getD heads i 0) (getD labels u 0 + getD weights i 0) labels places count labels′ places′ count′ → getD labels′ u 0 ≡ getD labels u 0
+        by (refused r e p q) = ap (λ (l : List ℕ). getD l u 0) e
+        by (taken s e w t y q) = ap (λ (l : List ℕ). getD l u 0) e ∙ getD-set-other labels (getD heads i 0) u (getD labels u 0 + getD weights i 0) 0 (λ z. other-head (sym z))
+
+    pub idle-after : getD places′ u 0 ≡ 0
+    idle-after = by f (waits? places′ u)
+      where
+        by : Offered (getD heads i 0) (getD labels u 0 + getD weights i 0) labels places count labels′ places′ count′ → (getD places′ u 0 ≡ 0) ⊎ Waits places′ u → getD places′ u 0 ≡ 0
+        by r (inl z) = z
+        by (refused r e p q) (inr w) = ap (λ (l : List ℕ). getD l u 0) p ∙ idle
+        by (taken s e w t y q) (inr k) = absurd (⊎-elim (λ z. other-head (sym z)) (λ z. z idle) (y u k))
+
+    pub mass-after : mass labels′ + count′ ≤ mass labels + count
+    mass-after = by f
+      where
+        by : Offered (getD heads i 0) (getD labels u 0 + getD weights i 0) labels places count labels′ places′ count′ → mass labels′ + count′ ≤ mass labels + count
+        by (refused r e p q) = omega (arith, ap mass e)
+        by (taken s e w t y q) =
+            omega
+            (arith, ap mass e,
+            mass-falls labels (getD heads i 0) (getD labels u 0 + getD weights i 0) node-in (λ z. omega (arith, some))
+            (offered-small starts heads weights blocked source labels g u (getD heads i 0) (getD weights i 0) arc some o) s)
+
+    pub labelled-after : Labelled labels places → Labelled labels′ places′
+    labelled-after l = by f
+      where
+        by : Offered (getD heads i 0) (getD labels u 0 + getD weights i 0) labels places count labels′ places′ count′ → Labelled labels′ places′
+        by (refused r e p q) = subst₂ Labelled (sym e) (sym p) l
+        by (taken s e w t y q) = record { labelled = λ v k z. at v (y v k) (ap (λ (h : List ℕ). getD h v 0) (sym e) ∙ z) (ℕ-discrete v (getD heads i 0)) }
+          where
+            at : (v : ℕ) → (v ≡ getD heads i 0) ⊎ Waits places v → getD (set labels (getD heads i 0) (getD labels u 0 + getD weights i 0)) v 0 ≡ 0 → Dec (v ≡ getD heads i 0) → ⊥
+            at v h z (yes q) =
+                omega
+                (arith, ap (λ (k : ℕ). getD (set labels (getD heads i 0) (getD labels u 0 + getD weights i 0)) k 0) q,
+                getD-set-same labels (getD heads i 0) (getD labels u 0 + getD weights i 0) 0 node-in, some)
+            at v (inl q) z (no n) = n q
+            at v (inr k) z (no n) = l .labelled v k (sym (getD-set-other labels (getD heads i 0) v (getD labels u 0 + getD weights i 0) 0 n) ∙ z)
+
+    pub closed-after : Closed starts heads weights blocked source labels′ places′ (Upto u (i + 1))
+    closed-after = by f
+      where
+        -- the arc at place i
+        at-place : (x y w : ℕ) (a : Arc starts heads weights x y w) → x ≡ u → a .place ≡ i → (y ≡ getD heads i 0) × (w ≡ getD weights i 0)
+        at-place x y w a e q = (sym (a .head) ∙ ap (λ (k : ℕ). getD heads k 0) q, sym (a .weight) ∙ ap (λ (k : ℕ). getD weights k 0) q)
+
+        by : Offered (getD heads i 0) (getD labels u 0 + getD weights i 0) labels places count labels′ places′ count′ → Closed starts heads weights blocked source labels′ places′ (Upto u (i + 1))
+        by (refused r e p q) =
+            subst₂ (λ (l k : List ℕ). Closed starts heads weights blocked source l k (Upto u (i + 1))) (sym e) (sym p)
+            (record { closed = λ x y w n z h a b. at x y w n z h a (earlier x (a .place) b (ℕ-discrete x u) (ℕ-discrete (a .place) i)) })
+          where
+            at :
+              (x y w : ℕ) → getD labels x 0 ≢ 0 → getD places x 0 ≡ 0 → Open blocked source x → (a : Arc starts heads weights x y w) → ((x ≡ u) × (a .place ≡ i)) ⊎ Upto u i x (a .place) →
+              Reached labels y (getD labels x 0 + w)
+            at x y w n z h a (inr b) = c .closed x y w n z h a b
+            at x y w n z h a (inl b) =
+                let k = at-place x y w a (b .0) (b .1) in
+                record {
+                  some = λ j. r .some (ap (λ (m : ℕ). getD labels m 0) (sym (k .0)) ∙ j);
+                  most = omega (arith, r .most, ap (λ (m : ℕ). getD labels m 0) (k .0), k .1, ap (λ (m : ℕ). getD labels m 0) (b .0))
+                }
+        by (taken s e w t only q) =
+            subst (λ (l : List ℕ). Closed starts heads weights blocked source l places′ (Upto u (i + 1))) (sym e)
+            (record { closed = λ x y k n z h a b. at x y k n z h a (earlier x (a .place) b (ℕ-discrete x u) (ℕ-discrete (a .place) i)) })
+          where
+            not-v : (x : ℕ) → getD places′ x 0 ≡ 0 → x ≢ getD heads i 0
+            not-v x z j = w (ap (λ (m : ℕ). getD places′ m 0) (sym j) ∙ z)
+
+            old-label : (x : ℕ) → x ≢ getD heads i 0 → getD (set labels (getD heads i 0) (getD labels u 0 + getD weights i 0)) x 0 ≡ getD labels x 0
+            old-label x j = getD-set-other labels (getD heads i 0) x (getD labels u 0 + getD weights i 0) 0 j
+
+            new-label : getD (set labels (getD heads i 0) (getD labels u 0 + getD weights i 0)) (getD heads i 0) 0 ≡ getD labels u 0 + getD weights i 0
+            new-label = getD-set-same labels (getD heads i 0) (getD labels u 0 + getD weights i 0) 0 node-in
+
+            old-idle : (x : ℕ) → getD places′ x 0 ≡ 0 → getD places x 0 ≡ 0
+            old-idle x z = ⊎-elim (λ j. j) (λ j. absurd (t x j z)) (waits? places x)
+
+            lower : (y b : ℕ) → Reached labels y b → Dec (y ≡ getD heads i 0) → Reached (set labels (getD heads i 0) (getD labels u 0 + getD weights i 0)) y b
+            lower y b r (no n) =
+                record { some = λ z. r .some (sym (old-label y n) ∙ z); most = omega (arith, old-label y n, r .most) }
+            lower y b r (yes j) =
+                let here = ap (λ (m : ℕ). getD (set labels (getD heads i 0) (getD labels u 0 + getD weights i 0)) m 0) j in
+                let was = ap (λ (m : ℕ). getD labels m 0) j in
+                record {
+                  some = λ z. omega (arith, here, new-label, some);
+                  most = ⊎-elim (λ z. absurd (r .some (was ∙ z))) (λ l. omega (arith, here, new-label, was, r .most)) s
+                }
+
+            at :
+              (x y k : ℕ) → getD (set labels (getD heads i 0) (getD labels u 0 + getD weights i 0)) x 0 ≢ 0 → getD places′ x 0 ≡ 0 → Open blocked source x →
+              (a : Arc starts heads weights x y k) → ((x ≡ u) × (a .place ≡ i)) ⊎ Upto u i x (a .place) →
+              Reached (set labels (getD heads i 0) (getD labels u 0 + getD weights i 0)) y (getD (set labels (getD heads i 0) (getD labels u 0 + getD weights i 0)) x 0 + k)
+            at x y k n z h a (inr b) =
+                let old = old-label x (not-v x z) in
+                let r = lower y (getD labels x 0 + k) (c .closed x y k (λ j. n (old ∙ j)) (old-idle x z) h a b) (ℕ-discrete y (getD heads i 0)) in
+                record { some = r .some; most = omega (arith, r .most, old) }
+            at x y k n z h a (inl b) =
+                let m = at-place x y k a (b .0) (b .1) in
+                let here = ap (λ (j : ℕ). getD (set labels (getD heads i 0) (getD labels u 0 + getD weights i 0)) j 0) (m .0) in
+                record {
+                  some = λ j. omega (arith, here, new-label, some);
+                  most = omega (arith, here, new-label, old-label x (not-v x z), ap (λ (j : ℕ). getD labels j 0) (b .0), m .1)
+                }
+
+module _ (starts heads weights blocked : List ℕ) (source : ℕ) (labels places places′ : List ℕ) (u : ℕ) where
+  -- u is taken: nothing is said of its arcs yet
+  pub closed-taken : Closed starts heads weights blocked source labels places All → Without u places places′ → Closed starts heads weights blocked source labels places′ (Upto u (getD starts u 0))
+  closed-taken c w = record { closed = λ x y k n z h a b. by x y k n z h a b (ℕ-discrete x u) }
+    where
+      by :
+        (x y k : ℕ) → getD labels x 0 ≢ 0 → getD places′ x 0 ≡ 0 → Open blocked source x → (a : Arc starts heads weights x y k) → Upto u (getD starts u 0) x (a .place) → Dec (x ≡ u) →
+        Reached labels y (getD labels x 0 + k)
+      by x y k n z h a b (yes e) = absurd (omega (arith, b e, a .owned .from, ap (λ (j : ℕ). getD starts j 0) e))
+      by x y k n z h a b (no d) = c .closed x y k n (⊎-elim (λ j. j) (λ j. absurd (w .still x d j z)) (waits? places x)) h a tt
+
+  -- all its arcs are done
+  pub closed-row : Closed starts heads weights blocked source labels places (Upto u (getD starts (u + 1) 0)) → Closed starts heads weights blocked source labels places All
+  closed-row c =
+      record { closed = λ x y k n z h a b. c .closed x y k n z h a (λ e. omega (arith, a .owned .below, ap (λ (j : ℕ). getD starts (j + 1) 0) e)) }
+
+  -- it may not be left
+  pub closed-shut : Closed starts heads weights blocked source labels places (Upto u (getD starts u 0)) → (Open blocked source u → ⊥) → Closed starts heads weights blocked source labels places All
+  closed-shut c n = record { closed = λ x y k s z h a b. c .closed x y k s z h a (λ e. absurd (n (subst (Open blocked source) e h))) }
+
+-- Nothing waits: the labels are the least weights.
+module _ (starts heads weights blocked : List ℕ) (source : ℕ) (labels places : List ℕ) (g : State starts heads weights blocked source labels)
+  (c : Closed starts heads weights blocked source labels places All) (idle : (v : ℕ) → getD places v 0 ≡ 0) where
+  along-reached :
+    {a : ℕ} {l : List ℕ} {b d : ℕ} → Along (road starts heads weights) a l b d → getD labels a 0 ≢ 0 → Open blocked source a → Inside (Free blocked) l →
+    Reached labels b (getD labels a 0 + d)
+  along-reached stop s o i = record { some = s; most = omega arith }
+  along-reached (step {a = a} {x = x} {w = w} t stop) s o i =
+      let r = c .closed a x w s (idle a) o t tt in
+      record { some = r .some; most = omega (arith, r .most) }
+  along-reached (step {a = a} {x = x} {w = w} t (step q k)) s o i =
+      let r = c .closed a x w s (idle a) o t tt in
+      let m = along-reached (step q k) (r .some) (inr (i .0)) (i .1) in
+      record { some = m .some; most = omega (arith, m .most, r .most) }
+
+  path-reached : (v d : ℕ) → Reaches (road starts heads weights) (Free blocked) source v d → Reached labels v (1 + d)
+  path-reached v d p =
+      let r = along-reached (p .path .along) (λ z. omega (arith, g .start)) (inl refl) (p .inner) in
+      record { some = r .some; most = omega (arith, r .most, g .start) }
+
+  told-at : (v : ℕ) → Told (Reaches (road starts heads weights) (Free blocked) source v) (getD labels v 0)
+  told-at v =
+      record {
+        none = λ e. record { none = λ d p. path-reached v d p .some e };
+        some = λ d e. record { is = is-at d e (path-within (g .node) (g .sound v d e)); least = λ w p. omega (arith, path-reached v w p .most) }
+      }
+    where
+      is-at :
+        (d : ℕ) → getD labels v 0 ≡ suc d → (w : ℕ) × Reaches (road starts heads weights) (Free blocked) source v w × (w ≤ d) → Reaches (road starts heads weights) (Free blocked) source v d
+      is-at d e p =
+          let same : p .0 ≡ d = omega (arith, p .2, path-reached v (p .0) (p .1) .most) in
+          subst (Reaches (road starts heads weights) (Free blocked) source v) same (p .1)
+
+  pub row-found : Row (road starts heads weights) blocked source labels
+  row-found = record { long = g .long; told = λ v h. told-at v }
+
+-- The start: the source alone has a label, and waits.
+abbrev pub blank : ℕ → List ℕ
+blank n = replicate n 0
+
+zeros-all : (n : ℕ) → zeros (replicate n 0) ≡ n
+zeros-all zero = refl
+zeros-all (suc n) = omega (arith, zeros-all n)
+
+module _ (starts heads weights blocked : List ℕ) (source : ℕ) (sound : Sound overlayLimits starts heads weights) (node : source < nodesOf starts) where
+  first-label : getD (set (blank (nodesOf starts)) source 1) source 0 ≡ 1
+  first-label = getD-set-same (blank (nodesOf starts)) source 1 0 (omega (arith, length-replicate {A = ℕ} (nodesOf starts) 0))
+
+  first-other : (v : ℕ) → v ≢ source → getD (set (blank (nodesOf starts)) source 1) v 0 ≡ 0
+  first-other v n = getD-set-other (blank (nodesOf starts)) source v 1 0 n ∙ zeros-at (nodesOf starts) v
+
+  only-source : (v : ℕ) → getD (set (blank (nodesOf starts)) source 1) v 0 ≢ 0 → v ≡ source
+  only-source v n = by (ℕ-discrete v source)
+    where
+      by : Dec (v ≡ source) → v ≡ source
+      by (yes e) = e
+      by (no d) = absurd (n (first-other v d))
+
+  pub first-state : State starts heads weights blocked source (set (blank (nodesOf starts)) source 1)
+  first-state =
+      record {
+        sound-graph = sound;
+        node = node;
+        long = length-set (blank (nodesOf starts)) source 1 ∙ length-replicate {A = ℕ} (nodesOf starts) 0;
+        start = first-label;
+        sound = λ v d e. walk v d e (only-source v (λ z. omega arith));
+        small = λ v. small-by v (ℕ-discrete v source)
+      }
+    where
+      walk : (v d : ℕ) → getD (set (blank (nodesOf starts)) source 1) v 0 ≡ suc d → v ≡ source → Walks (road starts heads weights) (Free blocked) source v d
+      walk v d e q =
+          let none : 0 ≡ d = omega (arith, ap (λ (k : ℕ). getD (set (blank (nodesOf starts)) source 1) k 0) q, first-label) in
+          subst₂ (λ (x y : ℕ). Walks (road starts heads weights) (Free blocked) source x y) (sym q) none (record { after = []; along = stop; inner = tt })
+
+      fewer : zeros (set (blank (nodesOf starts)) source 1) + 1 ≡ nodesOf starts
+      fewer =
+          one-fewer (blank (nodesOf starts)) source 1 (omega (arith, length-replicate {A = ℕ} (nodesOf starts) 0)) (zeros-at (nodesOf starts) source) (λ z. omega arith) ∙
+          zeros-all (nodesOf starts)
+
+      small-by : (v : ℕ) → Dec (v ≡ source) → getD (set (blank (nodesOf starts)) source 1) v 0 + zeros (set (blank (nodesOf starts)) source 1) * 4095000000 ≤ 1 + nodesOf starts * 4095000000
+      small-by v (yes e) = omega (arith, ap (λ (k : ℕ). getD (set (blank (nodesOf starts)) source 1) k 0) e, first-label, fewer)
+      small-by v (no n) = omega (arith, first-other v n, fewer)
+
+  pub first-going : (heap places : List ℕ) → Heap heap places 1 → With source (blank (nodesOf starts)) places → Going starts heads weights blocked source (set (blank (nodesOf starts)) source 1) heap places 1 All
+  first-going heap places h w =
+      record {
+        state = first-state;
+        labelled = record { labelled = λ v k z. only v k z (w .only v k) };
+        closed = record { closed = λ x y k n z o a b. absurd (w .now (ap (λ (j : ℕ). getD places j 0) (sym (only-source x n)) ∙ z)) };
+        heap-is = h;
+        as-many = w .long ∙ length-replicate {A = ℕ} (nodesOf starts) 0
+      }
+    where
+      only : (v : ℕ) → Waits places v → getD (set (blank (nodesOf starts)) source 1) v 0 ≡ 0 → (v ≡ source) ⊎ Waits (blank (nodesOf starts)) v → ⊥
+      only v k z (inl e) = omega (arith, ap (λ (j : ℕ). getD (set (blank (nodesOf starts)) source 1) j 0) e, first-label)
+      only v k z (inr j) = j (zeros-at (nodesOf starts) v)
