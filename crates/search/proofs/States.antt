@@ -14,10 +14,11 @@ use Rattle.paths.specs.Lists.{Inside}
 use Rattle.paths.proofs.Ways.{walks-joined, path-within, weighing}
 use Rattle.road.specs.Limits.{overlayLimits, mostNodes}
 use Rattle.road.specs.Roads.{nodesOf, Owns, Arc, road, Sound}
+use Rattle.road.proofs.Rows.{owned-listed}
 use Rattle.road.proofs.Zeros.{zeros-at}
 use Rattle.search.specs.Queue.{zeros, Heap, Waits, Sooner, With, Without}
 use Rattle.search.specs.Rows.{Free, Row}
-use Rattle.search.specs.States.{Open, Reached, State, Closed, Labelled, All, Upto, Offered, refused, taken, heavy, mass, Going}
+use Rattle.search.specs.States.{Open, Reached, State, Closed, Labelled, All, Upto, Offered, refused, taken, heavy, mass, Going, Leaves}
 use Rattle.search.proofs.Zeros.{zeros-short, one-fewer, as-many}
 
 mass-set : (l : List ℕ) (i v : ℕ) → i < length l → mass (set l i v) + heavy (getD l i 0) ≡ mass l + heavy v
@@ -380,3 +381,100 @@ module _ (starts heads weights blocked : List ℕ) (source : ℕ) (sound : Sound
       only : (v : ℕ) → Waits places v → getD (set (blank (nodesOf starts)) source 1) v 0 ≡ 0 → (v ≡ source) ⊎ Waits (blank (nodesOf starts)) v → ⊥
       only v k z (inl e) = omega (arith, ap (λ (j : ℕ). getD (set (blank (nodesOf starts)) source 1) j 0) e, first-label)
       only v k z (inr j) = j (zeros-at (nodesOf starts) v)
+
+-- One node's arcs on their way.
+pub record Relaxing (starts heads weights blocked : List ℕ) (source u : ℕ) (labels₀ heap₀ places₀ : List ℕ) (waiting base end i : ℕ) (labels heap places : List ℕ) (count : ℕ) : Type 0 where
+  pub going : Going starts heads weights blocked source labels heap places count (Upto u i)
+  pub leaves : Leaves blocked source labels places u
+  pub base-is : getD labels u 0 ≡ base
+  pub end-is : end ≡ getD starts (u + 1) 0
+  pub from : getD starts u 0 ≤ i
+  pub to : i ≤ end
+  pub falls : mass labels + count ≤ mass labels₀ + waiting
+  pub labels-long : length labels ≡ length labels₀
+  pub heap-long : length heap ≡ length heap₀
+  pub places-long : length places ≡ length places₀
+
+module _ (starts heads weights blocked : List ℕ) (source u : ℕ) (labels₀ heap₀ places₀ : List ℕ) (waiting base end : ℕ) where
+  pub relax-none :
+    Going starts heads weights blocked source labels₀ heap₀ places₀ waiting (Upto u (getD starts u 0)) → Leaves blocked source labels₀ places₀ u → base ≡ getD labels₀ u 0 →
+    end ≡ getD starts (u + 1) 0 → u < nodesOf starts → (i : ℕ) → i ≡ getD starts u 0 → Relaxing starts heads weights blocked source u labels₀ heap₀ places₀ waiting base end i labels₀ heap₀ places₀ waiting
+  relax-none g l b e h i q =
+      record {
+        going = subst (λ (x : ℕ). Going starts heads weights blocked source labels₀ heap₀ places₀ waiting (Upto u x)) (sym q) g;
+        leaves = l;
+        base-is = sym b;
+        end-is = e;
+        from = omega arith;
+        to = omega (arith, g .state .sound-graph .rising .rises u (omega arith));
+        falls = omega arith;
+        labels-long = refl;
+        heap-long = refl;
+        places-long = refl
+      }
+
+  module _ (i : ℕ) (labels heap places : List ℕ) (count : ℕ) (r : Relaxing starts heads weights blocked source u labels₀ heap₀ places₀ waiting base end i labels heap places count) (h : i < end) where
+    row-own : Owns starts u i
+    row-own = record { from = r .from; below = omega (arith, r .end-is) }
+
+    pub row-listed : i < length heads
+    row-listed = owned-listed starts heads (r .going .state .sound-graph .rising) u i row-own
+
+    pub row-weighed : i < length weights
+    row-weighed = omega (arith, row-listed, r .going .state .sound-graph .sized .alike)
+
+    pub row-node : getD heads i 0 < length places
+    row-node = omega (arith, r .going .state .sound-graph .inside i row-listed, r .going .as-many)
+
+    pub sum-small : base + getD weights i 0 < 20000000000000
+    sum-small =
+        omega
+        (arith, r .base-is, label-small starts heads weights blocked source labels (r .going .state) u, r .going .state .sound-graph .light i row-listed)
+
+    pub lengths-match : length labels ≡ length places
+    lengths-match = omega (arith, r .going .state .long, r .going .as-many)
+
+    pub relax-more :
+      (labels′ heap′ places′ : List ℕ) (count′ v x : ℕ) → v ≡ getD heads i 0 → x ≡ base + getD weights i 0 → Heap heap′ places′ count′ →
+      Offered v x labels places count labels′ places′ count′ → length labels′ ≡ length labels → length heap′ ≡ length heap → length places′ ≡ length places →
+      Relaxing starts heads weights blocked source u labels₀ heap₀ places₀ waiting base end (i + 1) labels′ heap′ places′ count′
+    relax-more labels′ heap′ places′ count′ v x ev ex hp f ll lh lp =
+        record {
+          going =
+            record {
+              state = state-after starts heads weights blocked source labels places (r .going .state) u i row-own row-listed (r .leaves .some) (r .leaves .idle) (r .leaves .may) (r .going .closed) labels′ places′ count count′ o;
+              labelled = labelled-after starts heads weights blocked source labels places (r .going .state) u i row-own row-listed (r .leaves .some) (r .leaves .idle) (r .leaves .may) (r .going .closed) labels′ places′ count count′ o (r .going .labelled);
+              closed = closed-after starts heads weights blocked source labels places (r .going .state) u i row-own row-listed (r .leaves .some) (r .leaves .idle) (r .leaves .may) (r .going .closed) labels′ places′ count count′ o;
+              heap-is = hp;
+              as-many = lp ∙ r .going .as-many
+            };
+          leaves = record { some = λ z. r .leaves .some (sym keeps ∙ z); idle = idle-after starts heads weights blocked source labels places (r .going .state) u i row-own row-listed (r .leaves .some) (r .leaves .idle) (r .leaves .may) (r .going .closed) labels′ places′ count count′ o; may = r .leaves .may };
+          base-is = keeps ∙ r .base-is;
+          end-is = r .end-is;
+          from = omega (arith, r .from);
+          to = omega arith;
+          falls = omega (arith, r .falls, mass-after starts heads weights blocked source labels places (r .going .state) u i row-own row-listed (r .leaves .some) (r .leaves .idle) (r .leaves .may) (r .going .closed) labels′ places′ count count′ o);
+          labels-long = ll ∙ r .labels-long;
+          heap-long = lh ∙ r .heap-long;
+          places-long = lp ∙ r .places-long
+        }
+      where
+        o : Offered (getD heads i 0) (getD labels u 0 + getD weights i 0) labels places count labels′ places′ count′
+        o = subst₂ (λ (y z : ℕ). Offered y z labels places count labels′ places′ count′) ev (ex ∙ ap (λ (y : ℕ). y + getD weights i 0) (sym (r .base-is))) f
+
+        keeps : getD labels′ u 0 ≡ getD labels u 0
+        keeps = label-after starts heads weights blocked source labels places (r .going .state) u i row-own row-listed (r .leaves .some) (r .leaves .idle) (r .leaves .may) (r .going .closed) labels′ places′ count count′ o
+
+  pub relax-end :
+    (i : ℕ) (labels heap places : List ℕ) (count : ℕ) → Relaxing starts heads weights blocked source u labels₀ heap₀ places₀ waiting base end i labels heap places count → end ≤ i →
+    Going starts heads weights blocked source labels heap places count All
+  relax-end i labels heap places count r h =
+      let g = r .going in
+      let at : i ≡ getD starts (u + 1) 0 = omega (arith, r .to, r .end-is) in
+      record {
+        state = g .state;
+        labelled = g .labelled;
+        closed = closed-row starts heads weights blocked source labels places places u (subst (λ (x : ℕ). Closed starts heads weights blocked source labels places (Upto u x)) at (g .closed));
+        heap-is = g .heap-is;
+        as-many = g .as-many
+      }

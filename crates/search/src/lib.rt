@@ -1,2 +1,4 @@
 // One search: the least weights from a source over paths with no blocked node strictly inside.
+mod labels;
 mod queue;
+

@@ -1,0 +1,74 @@
+// The search. A node whose label falls waits again; when nothing waits the labels are least.
+use crate::queue::add;
+use crate::queue::sooner;
+use crate::queue::take;
+use crate::queue::up;
+use road::wide;
+ghost use mathlib.Core.Path.{_≡_};
+ghost use mathlib.Core.Logic.{_≢_};
+ghost use Prim.Native.Nat.{_+_, _≤_, _<_};
+ghost use lib.ListN.{length, getD, replicate};
+ghost use Rattle.road.specs.Limits.{overlayLimits};
+ghost use Rattle.road.specs.Roads.{nodesOf, road, Sound};
+ghost use Rattle.search.specs.Queue.{Heap};
+ghost use Rattle.search.specs.Rows.{Row};
+ghost use Rattle.search.specs.States.{All, Going, Leaves, Offered, Upto, mass};
+
+// A label as wide as sums are.
+fn long(x: u32) -> u64
+    ensures { λ r. ⌜ r ≡ x ⌝ }
+{
+    x as u64
+}
+
+// Offers the label x to v, which is taken where v has none or a larger one; then v waits.
+fn offer(heap: &mut [u32], places: &mut [u32], labels: &mut [u64], count: usize, v: usize, x: u64) -> usize
+    requires { ⌜ Heap (now heap) (now places) count ⌝ }
+    requires { ⌜ length (now labels) ≡ length (now places) ⌝ }
+    requires { ⌜ v < length (now places) ⌝ }
+    ensures { λ r. ⌜ Heap (now (heap .exit)) (now (places .exit)) r ⌝ }
+    ensures { λ r. ⌜ Offered v x (now (labels .entry)) (now (places .entry)) count (now (labels .exit)) (now (places .exit)) r ⌝ }
+{
+    if sooner(x, labels[v]) {
+        labels[v] = x;
+        let at = wide(places[v]);
+        if at == 0 {
+            add(heap, places, labels, count, v);
+            return count + 1;
+        }
+        up(heap, places, labels, count, at - 1);
+        return count;
+    }
+    count
+}
+
+// Offers u's neighbours the labels that its arcs give.
+fn relax(
+    starts: &[u32],
+    heads: &[u32],
+    weights: &[u32],
+    blocked: &[u8],
+    source: usize,
+    u: usize,
+    heap: &mut [u32],
+    places: &mut [u32],
+    labels: &mut [u64],
+    waiting: usize,
+) -> usize
+    requires { ⌜ Going (now starts) (now heads) (now weights) (now blocked) source (now labels) (now heap) (now places) waiting (Upto u (getD (now starts) u 0)) ⌝ }
+    requires { ⌜ Leaves (now blocked) source (now labels) (now places) u ⌝ }
+    requires { ⌜ u < nodesOf (now starts) ⌝ }
+    ensures { λ r. ⌜ Going (now (starts .entry)) (now (heads .entry)) (now (weights .entry)) (now (blocked .entry)) source (now (labels .exit)) (now (heap .exit)) (now (places .exit)) r All ⌝ }
+    ensures { λ r. ⌜ mass (now (labels .exit)) + r ≤ mass (now (labels .entry)) + waiting ⌝ }
+{
+    let base = labels[u];
+    let end = wide(starts[u + 1]);
+    let mut i = wide(starts[u]);
+    let mut count = waiting;
+    while i < end {
+        let x = base + long(weights[i]);
+        count = offer(heap, places, labels, count, wide(heads[i]), x);
+        i += 1;
+    }
+    count
+}
