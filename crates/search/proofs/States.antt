@@ -7,7 +7,7 @@ use native.Mathlib.Decide.{decLt, ℕ-discrete}
 use native.Mathlib.Nat.{mul-le-mul-right}
 use native.Mathlib.Omega.{arith}
 use lib.ListN.{length, getD, set, replicate, length-set, length-replicate}
-use lib.Seq.{getD-set-same, getD-set-other}
+use lib.Seq.{getD-set-same, getD-set-other, ext-getD}
 use Rattle.paths.specs.Graphs.{Graph, Along, stop, step, IsPath, Reaches, Walks}
 use Rattle.paths.specs.Least.{Told, Least, Empty}
 use Rattle.paths.specs.Lists.{Inside}
@@ -17,8 +17,9 @@ use Rattle.road.specs.Roads.{nodesOf, Owns, Arc, road, Sound}
 use Rattle.road.proofs.Rows.{owned-listed}
 use Rattle.road.proofs.Zeros.{zeros-at}
 use Rattle.search.specs.Queue.{zeros, Heap, Waits, Sooner, With, Without}
-use Rattle.search.specs.Rows.{Free, Row}
+use Rattle.search.specs.Rows.{Free, Row, Asks}
 use Rattle.search.specs.States.{Open, Reached, State, Closed, Labelled, All, Upto, Offered, refused, taken, heavy, mass, Going, Leaves}
+use Rattle.search.proofs.Heaps.{waits-node}
 use Rattle.search.proofs.Zeros.{zeros-short, one-fewer, as-many}
 
 mass-set : (l : List ℕ) (i v : ℕ) → i < length l → mass (set l i v) + heavy (getD l i 0) ≡ mass l + heavy v
@@ -90,7 +91,7 @@ module _ (starts heads weights blocked : List ℕ) (source : ℕ) (labels : List
           long = length-set labels v (getD labels u 0 + w) ∙ g .long;
           start = start-by (ℕ-discrete source v);
           sound = λ x d e. sound-by x d e (ℕ-discrete x v);
-          small = λ x. small-by x (ℕ-discrete x v) s
+          small = λ x. small-by x (ℕ-discrete x v) s;
         }
       where
         start-by : Dec (source ≡ v) → getD (set labels v (getD labels u 0 + w)) source 0 ≡ 1
@@ -134,8 +135,8 @@ waits? places x = by (ℕ-discrete (getD places x 0) 0)
 module _ (starts heads weights blocked : List ℕ) (source : ℕ) (labels places : List ℕ) (g : State starts heads weights blocked source labels) where
   -- one arc more of u is closed
   module _ (u i : ℕ) (own : Owns starts u i) (listed : i < length heads) (some : getD labels u 0 ≢ 0) (idle : getD places u 0 ≡ 0) (o : Open blocked source u)
-    (c : Closed starts heads weights blocked source labels places (Upto u i)) (labels′ places′ : List ℕ) (count count′ : ℕ)
-    (f : Offered (getD heads i 0) (getD labels u 0 + getD weights i 0) labels places count labels′ places′ count′) where
+      (c : Closed starts heads weights blocked source labels places (Upto u i)) (labels′ places′ : List ℕ) (count count′ : ℕ)
+      (f : Offered (getD heads i 0) (getD labels u 0 + getD weights i 0) labels places count labels′ places′ count′) where
     arc : Arc starts heads weights u (getD heads i 0) (getD weights i 0)
     arc = record { place = i; listed = listed; owned = own; head = refl; weight = refl }
 
@@ -180,10 +181,12 @@ module _ (starts heads weights blocked : List ℕ) (source : ℕ) (labels places
         by : Offered (getD heads i 0) (getD labels u 0 + getD weights i 0) labels places count labels′ places′ count′ → mass labels′ + count′ ≤ mass labels + count
         by (refused r e p q) = omega (arith, ap mass e)
         by (taken s e w t y q) =
-            omega
-            (arith, ap mass e,
-            mass-falls labels (getD heads i 0) (getD labels u 0 + getD weights i 0) node-in (λ z. omega (arith, some))
-            (offered-small starts heads weights blocked source labels g u (getD heads i 0) (getD weights i 0) arc some o) s)
+            omega (
+              arith,
+              ap mass e,
+              mass-falls labels (getD heads i 0) (getD labels u 0 + getD weights i 0) node-in (λ z. omega (arith, some))
+                  (offered-small starts heads weights blocked source labels g u (getD heads i 0) (getD weights i 0) arc some o) s,
+            )
 
     pub labelled-after : Labelled labels places → Labelled labels′ places′
     labelled-after l = by f
@@ -194,9 +197,12 @@ module _ (starts heads weights blocked : List ℕ) (source : ℕ) (labels places
           where
             at : (v : ℕ) → (v ≡ getD heads i 0) ⊎ Waits places v → getD (set labels (getD heads i 0) (getD labels u 0 + getD weights i 0)) v 0 ≡ 0 → Dec (v ≡ getD heads i 0) → ⊥
             at v h z (yes q) =
-                omega
-                (arith, ap (λ (k : ℕ). getD (set labels (getD heads i 0) (getD labels u 0 + getD weights i 0)) k 0) q,
-                getD-set-same labels (getD heads i 0) (getD labels u 0 + getD weights i 0) 0 node-in, some)
+                omega (
+                  arith,
+                  ap (λ (k : ℕ). getD (set labels (getD heads i 0) (getD labels u 0 + getD weights i 0)) k 0) q,
+                  getD-set-same labels (getD heads i 0) (getD labels u 0 + getD weights i 0) 0 node-in,
+                  some,
+                )
             at v (inl q) z (no n) = n q
             at v (inr k) z (no n) = l .labelled v k (sym (getD-set-other labels (getD heads i 0) v (getD labels u 0 + getD weights i 0) 0 n) ∙ z)
 
@@ -213,14 +219,14 @@ module _ (starts heads weights blocked : List ℕ) (source : ℕ) (labels places
             (record { closed = λ x y w n z h a b. at x y w n z h a (earlier x (a .place) b (ℕ-discrete x u) (ℕ-discrete (a .place) i)) })
           where
             at :
-              (x y w : ℕ) → getD labels x 0 ≢ 0 → getD places x 0 ≡ 0 → Open blocked source x → (a : Arc starts heads weights x y w) → ((x ≡ u) × (a .place ≡ i)) ⊎ Upto u i x (a .place) →
-              Reached labels y (getD labels x 0 + w)
+                (x y w : ℕ) → getD labels x 0 ≢ 0 → getD places x 0 ≡ 0 → Open blocked source x → (a : Arc starts heads weights x y w) → ((x ≡ u) × (a .place ≡ i)) ⊎ Upto u i x (a .place) →
+                Reached labels y (getD labels x 0 + w)
             at x y w n z h a (inr b) = c .closed x y w n z h a b
             at x y w n z h a (inl b) =
                 let k = at-place x y w a (b .0) (b .1) in
                 record {
                   some = λ j. r .some (ap (λ (m : ℕ). getD labels m 0) (sym (k .0)) ∙ j);
-                  most = omega (arith, r .most, ap (λ (m : ℕ). getD labels m 0) (k .0), k .1, ap (λ (m : ℕ). getD labels m 0) (b .0))
+                  most = omega (arith, r .most, ap (λ (m : ℕ). getD labels m 0) (k .0), k .1, ap (λ (m : ℕ). getD labels m 0) (b .0));
                 }
         by (taken s e w t only q) =
             subst (λ (l : List ℕ). Closed starts heads weights blocked source l places′ (Upto u (i + 1))) (sym e)
@@ -246,13 +252,13 @@ module _ (starts heads weights blocked : List ℕ) (source : ℕ) (labels places
                 let was = ap (λ (m : ℕ). getD labels m 0) j in
                 record {
                   some = λ z. omega (arith, here, new-label, some);
-                  most = ⊎-elim (λ z. absurd (r .some (was ∙ z))) (λ l. omega (arith, here, new-label, was, r .most)) s
+                  most = ⊎-elim (λ z. absurd (r .some (was ∙ z))) (λ l. omega (arith, here, new-label, was, r .most)) s;
                 }
 
             at :
-              (x y k : ℕ) → getD (set labels (getD heads i 0) (getD labels u 0 + getD weights i 0)) x 0 ≢ 0 → getD places′ x 0 ≡ 0 → Open blocked source x →
-              (a : Arc starts heads weights x y k) → ((x ≡ u) × (a .place ≡ i)) ⊎ Upto u i x (a .place) →
-              Reached (set labels (getD heads i 0) (getD labels u 0 + getD weights i 0)) y (getD (set labels (getD heads i 0) (getD labels u 0 + getD weights i 0)) x 0 + k)
+                (x y k : ℕ) → getD (set labels (getD heads i 0) (getD labels u 0 + getD weights i 0)) x 0 ≢ 0 → getD places′ x 0 ≡ 0 → Open blocked source x →
+                (a : Arc starts heads weights x y k) → ((x ≡ u) × (a .place ≡ i)) ⊎ Upto u i x (a .place) →
+                Reached (set labels (getD heads i 0) (getD labels u 0 + getD weights i 0)) y (getD (set labels (getD heads i 0) (getD labels u 0 + getD weights i 0)) x 0 + k)
             at x y k n z h a (inr b) =
                 let old = old-label x (not-v x z) in
                 let r = lower y (getD labels x 0 + k) (c .closed x y k (λ j. n (old ∙ j)) (old-idle x z) h a b) (ℕ-discrete y (getD heads i 0)) in
@@ -262,7 +268,7 @@ module _ (starts heads weights blocked : List ℕ) (source : ℕ) (labels places
                 let here = ap (λ (j : ℕ). getD (set labels (getD heads i 0) (getD labels u 0 + getD weights i 0)) j 0) (m .0) in
                 record {
                   some = λ j. omega (arith, here, new-label, some);
-                  most = omega (arith, here, new-label, old-label x (not-v x z), ap (λ (j : ℕ). getD labels j 0) (b .0), m .1)
+                  most = omega (arith, here, new-label, old-label x (not-v x z), ap (λ (j : ℕ). getD labels j 0) (b .0), m .1);
                 }
 
 module _ (starts heads weights blocked : List ℕ) (source : ℕ) (labels places places′ : List ℕ) (u : ℕ) where
@@ -271,8 +277,8 @@ module _ (starts heads weights blocked : List ℕ) (source : ℕ) (labels places
   closed-taken c w = record { closed = λ x y k n z h a b. by x y k n z h a b (ℕ-discrete x u) }
     where
       by :
-        (x y k : ℕ) → getD labels x 0 ≢ 0 → getD places′ x 0 ≡ 0 → Open blocked source x → (a : Arc starts heads weights x y k) → Upto u (getD starts u 0) x (a .place) → Dec (x ≡ u) →
-        Reached labels y (getD labels x 0 + k)
+          (x y k : ℕ) → getD labels x 0 ≢ 0 → getD places′ x 0 ≡ 0 → Open blocked source x → (a : Arc starts heads weights x y k) → Upto u (getD starts u 0) x (a .place) → Dec (x ≡ u) →
+          Reached labels y (getD labels x 0 + k)
       by x y k n z h a b (yes e) = absurd (omega (arith, b e, a .owned .from, ap (λ (j : ℕ). getD starts j 0) e))
       by x y k n z h a b (no d) = c .closed x y k n (⊎-elim (λ j. j) (λ j. absurd (w .still x d j z)) (waits? places x)) h a tt
 
@@ -287,10 +293,10 @@ module _ (starts heads weights blocked : List ℕ) (source : ℕ) (labels places
 
 -- Nothing waits: the labels are the least weights.
 module _ (starts heads weights blocked : List ℕ) (source : ℕ) (labels places : List ℕ) (g : State starts heads weights blocked source labels)
-  (c : Closed starts heads weights blocked source labels places All) (idle : (v : ℕ) → getD places v 0 ≡ 0) where
+    (c : Closed starts heads weights blocked source labels places All) (idle : (v : ℕ) → getD places v 0 ≡ 0) where
   along-reached :
-    {a : ℕ} {l : List ℕ} {b d : ℕ} → Along (road starts heads weights) a l b d → getD labels a 0 ≢ 0 → Open blocked source a → Inside (Free blocked) l →
-    Reached labels b (getD labels a 0 + d)
+      {a : ℕ} {l : List ℕ} {b d : ℕ} → Along (road starts heads weights) a l b d → getD labels a 0 ≢ 0 → Open blocked source a → Inside (Free blocked) l →
+      Reached labels b (getD labels a 0 + d)
   along-reached stop s o i = record { some = s; most = omega arith }
   along-reached (step {a = a} {x = x} {w = w} t stop) s o i =
       let r = c .closed a x w s (idle a) o t tt in
@@ -309,11 +315,11 @@ module _ (starts heads weights blocked : List ℕ) (source : ℕ) (labels places
   told-at v =
       record {
         none = λ e. record { none = λ d p. path-reached v d p .some e };
-        some = λ d e. record { is = is-at d e (path-within (g .node) (g .sound v d e)); least = λ w p. omega (arith, path-reached v w p .most) }
+        some = λ d e. record { is = is-at d e (path-within (g .node) (g .sound v d e)); least = λ w p. omega (arith, path-reached v w p .most) };
       }
     where
       is-at :
-        (d : ℕ) → getD labels v 0 ≡ suc d → (w : ℕ) × Reaches (road starts heads weights) (Free blocked) source v w × (w ≤ d) → Reaches (road starts heads weights) (Free blocked) source v d
+          (d : ℕ) → getD labels v 0 ≡ suc d → (w : ℕ) × Reaches (road starts heads weights) (Free blocked) source v w × (w ≤ d) → Reaches (road starts heads weights) (Free blocked) source v d
       is-at d e p =
           let same : p .0 ≡ d = omega (arith, p .2, path-reached v (p .0) (p .1) .most) in
           subst (Reaches (road starts heads weights) (Free blocked) source v) same (p .1)
@@ -351,7 +357,7 @@ module _ (starts heads weights blocked : List ℕ) (source : ℕ) (sound : Sound
         long = length-set (blank (nodesOf starts)) source 1 ∙ length-replicate {A = ℕ} (nodesOf starts) 0;
         start = first-label;
         sound = λ v d e. walk v d e (only-source v (λ z. omega arith));
-        small = λ v. small-by v (ℕ-discrete v source)
+        small = λ v. small-by v (ℕ-discrete v source);
       }
     where
       walk : (v d : ℕ) → getD (set (blank (nodesOf starts)) source 1) v 0 ≡ suc d → v ≡ source → Walks (road starts heads weights) (Free blocked) source v d
@@ -375,7 +381,7 @@ module _ (starts heads weights blocked : List ℕ) (source : ℕ) (sound : Sound
         labelled = record { labelled = λ v k z. only v k z (w .only v k) };
         closed = record { closed = λ x y k n z o a b. absurd (w .now (ap (λ (j : ℕ). getD places j 0) (sym (only-source x n)) ∙ z)) };
         heap-is = h;
-        as-many = w .long ∙ length-replicate {A = ℕ} (nodesOf starts) 0
+        as-many = w .long ∙ length-replicate {A = ℕ} (nodesOf starts) 0;
       }
     where
       only : (v : ℕ) → Waits places v → getD (set (blank (nodesOf starts)) source 1) v 0 ≡ 0 → (v ≡ source) ⊎ Waits (blank (nodesOf starts)) v → ⊥
@@ -397,8 +403,8 @@ pub record Relaxing (starts heads weights blocked : List ℕ) (source u : ℕ) (
 
 module _ (starts heads weights blocked : List ℕ) (source u : ℕ) (labels₀ heap₀ places₀ : List ℕ) (waiting base end : ℕ) where
   pub relax-none :
-    Going starts heads weights blocked source labels₀ heap₀ places₀ waiting (Upto u (getD starts u 0)) → Leaves blocked source labels₀ places₀ u → base ≡ getD labels₀ u 0 →
-    end ≡ getD starts (u + 1) 0 → u < nodesOf starts → (i : ℕ) → i ≡ getD starts u 0 → Relaxing starts heads weights blocked source u labels₀ heap₀ places₀ waiting base end i labels₀ heap₀ places₀ waiting
+      Going starts heads weights blocked source labels₀ heap₀ places₀ waiting (Upto u (getD starts u 0)) → Leaves blocked source labels₀ places₀ u → base ≡ getD labels₀ u 0 →
+      end ≡ getD starts (u + 1) 0 → u < nodesOf starts → (i : ℕ) → i ≡ getD starts u 0 → Relaxing starts heads weights blocked source u labels₀ heap₀ places₀ waiting base end i labels₀ heap₀ places₀ waiting
   relax-none g l b e h i q =
       record {
         going = subst (λ (x : ℕ). Going starts heads weights blocked source labels₀ heap₀ places₀ waiting (Upto u x)) (sym q) g;
@@ -410,7 +416,7 @@ module _ (starts heads weights blocked : List ℕ) (source u : ℕ) (labels₀ h
         falls = omega arith;
         labels-long = refl;
         heap-long = refl;
-        places-long = refl
+        places-long = refl;
       }
 
   module _ (i : ℕ) (labels heap places : List ℕ) (count : ℕ) (r : Relaxing starts heads weights blocked source u labels₀ heap₀ places₀ waiting base end i labels heap places count) (h : i < end) where
@@ -435,19 +441,19 @@ module _ (starts heads weights blocked : List ℕ) (source u : ℕ) (labels₀ h
     lengths-match = omega (arith, r .going .state .long, r .going .as-many)
 
     pub relax-more :
-      (labels′ heap′ places′ : List ℕ) (count′ v x : ℕ) → v ≡ getD heads i 0 → x ≡ base + getD weights i 0 → Heap heap′ places′ count′ →
-      Offered v x labels places count labels′ places′ count′ → length labels′ ≡ length labels → length heap′ ≡ length heap → length places′ ≡ length places →
-      Relaxing starts heads weights blocked source u labels₀ heap₀ places₀ waiting base end (i + 1) labels′ heap′ places′ count′
+        (labels′ heap′ places′ : List ℕ) (count′ v x : ℕ) → v ≡ getD heads i 0 → x ≡ base + getD weights i 0 → Heap heap′ places′ count′ →
+        Offered v x labels places count labels′ places′ count′ → length labels′ ≡ length labels → length heap′ ≡ length heap → length places′ ≡ length places →
+        Relaxing starts heads weights blocked source u labels₀ heap₀ places₀ waiting base end (i + 1) labels′ heap′ places′ count′
     relax-more labels′ heap′ places′ count′ v x ev ex hp f ll lh lp =
         record {
           going =
-            record {
-              state = state-after starts heads weights blocked source labels places (r .going .state) u i row-own row-listed (r .leaves .some) (r .leaves .idle) (r .leaves .may) (r .going .closed) labels′ places′ count count′ o;
-              labelled = labelled-after starts heads weights blocked source labels places (r .going .state) u i row-own row-listed (r .leaves .some) (r .leaves .idle) (r .leaves .may) (r .going .closed) labels′ places′ count count′ o (r .going .labelled);
-              closed = closed-after starts heads weights blocked source labels places (r .going .state) u i row-own row-listed (r .leaves .some) (r .leaves .idle) (r .leaves .may) (r .going .closed) labels′ places′ count count′ o;
-              heap-is = hp;
-              as-many = lp ∙ r .going .as-many
-            };
+              record {
+                state = state-after starts heads weights blocked source labels places (r .going .state) u i row-own row-listed (r .leaves .some) (r .leaves .idle) (r .leaves .may) (r .going .closed) labels′ places′ count count′ o;
+                labelled = labelled-after starts heads weights blocked source labels places (r .going .state) u i row-own row-listed (r .leaves .some) (r .leaves .idle) (r .leaves .may) (r .going .closed) labels′ places′ count count′ o (r .going .labelled);
+                closed = closed-after starts heads weights blocked source labels places (r .going .state) u i row-own row-listed (r .leaves .some) (r .leaves .idle) (r .leaves .may) (r .going .closed) labels′ places′ count count′ o;
+                heap-is = hp;
+                as-many = lp ∙ r .going .as-many;
+              };
           leaves = record { some = λ z. r .leaves .some (sym keeps ∙ z); idle = idle-after starts heads weights blocked source labels places (r .going .state) u i row-own row-listed (r .leaves .some) (r .leaves .idle) (r .leaves .may) (r .going .closed) labels′ places′ count count′ o; may = r .leaves .may };
           base-is = keeps ∙ r .base-is;
           end-is = r .end-is;
@@ -456,7 +462,7 @@ module _ (starts heads weights blocked : List ℕ) (source u : ℕ) (labels₀ h
           falls = omega (arith, r .falls, mass-after starts heads weights blocked source labels places (r .going .state) u i row-own row-listed (r .leaves .some) (r .leaves .idle) (r .leaves .may) (r .going .closed) labels′ places′ count count′ o);
           labels-long = ll ∙ r .labels-long;
           heap-long = lh ∙ r .heap-long;
-          places-long = lp ∙ r .places-long
+          places-long = lp ∙ r .places-long;
         }
       where
         o : Offered (getD heads i 0) (getD labels u 0 + getD weights i 0) labels places count labels′ places′ count′
@@ -466,8 +472,8 @@ module _ (starts heads weights blocked : List ℕ) (source u : ℕ) (labels₀ h
         keeps = label-after starts heads weights blocked source labels places (r .going .state) u i row-own row-listed (r .leaves .some) (r .leaves .idle) (r .leaves .may) (r .going .closed) labels′ places′ count count′ o
 
   pub relax-end :
-    (i : ℕ) (labels heap places : List ℕ) (count : ℕ) → Relaxing starts heads weights blocked source u labels₀ heap₀ places₀ waiting base end i labels heap places count → end ≤ i →
-    Going starts heads weights blocked source labels heap places count All
+      (i : ℕ) (labels heap places : List ℕ) (count : ℕ) → Relaxing starts heads weights blocked source u labels₀ heap₀ places₀ waiting base end i labels heap places count → end ≤ i →
+      Going starts heads weights blocked source labels heap places count All
   relax-end i labels heap places count r h =
       let g = r .going in
       let at : i ≡ getD starts (u + 1) 0 = omega (arith, r .to, r .end-is) in
@@ -476,5 +482,110 @@ module _ (starts heads weights blocked : List ℕ) (source u : ℕ) (labels₀ h
         labelled = g .labelled;
         closed = closed-row starts heads weights blocked source labels places places u (subst (λ (x : ℕ). Closed starts heads weights blocked source labels places (Upto u x)) at (g .closed));
         heap-is = g .heap-is;
-        as-many = g .as-many
+        as-many = g .as-many;
       }
+
+-- A node is taken.
+module _ (starts heads weights blocked : List ℕ) (source : ℕ) (labels heap places : List ℕ) (count : ℕ) (g : Going starts heads weights blocked source labels heap places count All)
+    (u : ℕ) (heap′ places′ : List ℕ) (h : Heap heap′ places′ (count - 1)) (w : Without u places places′) where
+  pub going-taken : Going starts heads weights blocked source labels heap′ places′ (count - 1) (Upto u (getD starts u 0))
+  going-taken =
+      record {
+        state = g .state;
+        labelled = record { labelled = λ v k. g .labelled .labelled v (w .only v k) };
+        closed = closed-taken starts heads weights blocked source labels places places′ u (g .closed) w;
+        heap-is = h;
+        as-many = w .long ∙ g .as-many;
+      }
+
+  pub leaves-taken : Open blocked source u → Leaves blocked source labels places′ u
+  leaves-taken o = record { some = g .labelled .labelled u (w .was); idle = w .gone; may = o }
+
+  pub node-taken : u < nodesOf starts
+  node-taken = omega (arith, waits-node heap places count (g .heap-is) u (w .was), g .as-many)
+
+  pub going-shut : (Open blocked source u → ⊥) → Going starts heads weights blocked source labels heap′ places′ (count - 1) All
+  going-shut n =
+      record {
+        state = g .state;
+        labelled = going-taken .labelled;
+        closed = closed-shut starts heads weights blocked source labels places′ places′ u (going-taken .closed) n;
+        heap-is = h;
+        as-many = going-taken .as-many;
+      }
+
+-- The search between takes, with the lengths that stay.
+pub record Running (starts heads weights blocked : List ℕ) (source : ℕ) (labels₀ heap₀ places₀ labels heap places : List ℕ) (count : ℕ) : Type 0 where
+  pub going : Going starts heads weights blocked source labels heap places count All
+  pub labels-long : length labels ≡ length labels₀
+  pub heap-long : length heap ≡ length heap₀
+  pub places-long : length places ≡ length places₀
+
+module _ (starts heads weights blocked : List ℕ) (source : ℕ) where
+  pub running-none :
+      (labels heap places : List ℕ) (count : ℕ) → Going starts heads weights blocked source labels heap places count All →
+      Running starts heads weights blocked source labels heap places labels heap places count
+  running-none labels heap places count g = record { going = g; labels-long = refl; heap-long = refl; places-long = refl }
+
+  pub running-on :
+      (labels₀ heap₀ places₀ labels heap places : List ℕ) (count : ℕ) → Running starts heads weights blocked source labels₀ heap₀ places₀ labels heap places count →
+      (labels′ heap′ places′ : List ℕ) (count′ : ℕ) → Going starts heads weights blocked source labels′ heap′ places′ count′ All → length labels′ ≡ length labels →
+      length heap′ ≡ length heap → length places′ ≡ length places → Running starts heads weights blocked source labels₀ heap₀ places₀ labels′ heap′ places′ count′
+  running-on labels₀ heap₀ places₀ labels heap places count r labels′ heap′ places′ count′ g ll lh lp =
+      record { going = g; labels-long = ll ∙ r .labels-long; heap-long = lh ∙ r .heap-long; places-long = lp ∙ r .places-long }
+
+  pub going-at :
+      (labels heap places : List ℕ) (count count′ : ℕ) → count ≡ count′ → Going starts heads weights blocked source labels heap places count All →
+      Going starts heads weights blocked source labels heap places count′ All
+  going-at labels heap places count count′ e g = subst (λ (k : ℕ). Going starts heads weights blocked source labels heap places k All) e g
+
+-- An empty queue is zeros.
+all-zero : (l : List ℕ) → zeros l ≡ length l → (v : ℕ) → getD l v 0 ≡ 0
+all-zero [] e v = refl
+all-zero (zero ∷ l) e zero = refl
+all-zero (zero ∷ l) e (suc v) = all-zero l (omega arith) v
+all-zero (suc x ∷ l) e v = absurd (omega (arith, zeros-short l))
+
+pub empty-queue : (heap places : List ℕ) (h n : ℕ) → heap ≡ blank h → places ≡ blank n → n ≤ mostNodes → n ≤ h → Heap heap places 0
+empty-queue heap places h n e f few room =
+    subst₂ (λ (x y : List ℕ). Heap x y 0) (sym e) (sym f)
+    (record {
+      count = omega (arith, zeros-all n, length-replicate {A = ℕ} n 0);
+      few = omega (arith, length-replicate {A = ℕ} n 0);
+      room = omega (arith, length-replicate {A = ℕ} n 0, length-replicate {A = ℕ} h 0);
+      there = λ i v z. absurd (omega (arith, zeros-at h i));
+      back = λ v i z. absurd (omega (arith, zeros-at n v));
+      live = λ i l. absurd (omega arith);
+      dead = λ i l. zeros-at h i;
+    })
+
+module _ (starts heads weights blocked : List ℕ) (source : ℕ) (labels heap places : List ℕ) (g : Going starts heads weights blocked source labels heap places 0 All) where
+  idle-all : (v : ℕ) → getD places v 0 ≡ 0
+  idle-all = all-zero places (omega (arith, g .heap-is .count))
+
+  pub row-of : Row (road starts heads weights) blocked source labels
+  row-of = row-found starts heads weights blocked source labels places (g .state) (g .closed) idle-all
+
+  pub heap-empty : (h : ℕ) → length heap ≡ h → heap ≡ blank h
+  heap-empty h e = ext-getD 0 heap (blank h) (e ∙ sym (length-replicate {A = ℕ} h 0)) (λ i l. g .heap-is .dead i (omega arith) ∙ sym (zeros-at h i))
+
+  pub places-empty : (n : ℕ) → length places ≡ n → places ≡ blank n
+  places-empty n e = ext-getD 0 places (blank n) (e ∙ sym (length-replicate {A = ℕ} n 0)) (λ i l. idle-all i ∙ sym (zeros-at n i))
+
+-- From what the search asks to its first state.
+module _ (starts heads weights blocked : List ℕ) (source : ℕ) (labels heap places : List ℕ) (q : Asks starts heads weights blocked source labels heap places) where
+  pub queue-empty : Heap heap places 0
+  queue-empty = empty-queue heap places (length heap) (nodesOf starts) (q .heap-zero) (q .places-zero) (omega (arith, q .sound .sized .most)) (q .queue)
+
+  pub places-long : length places ≡ nodesOf starts
+  places-long = ap length (q .places-zero) ∙ length-replicate {A = ℕ} (nodesOf starts) 0
+
+  pub source-idle : getD places source 0 ≡ 0
+  source-idle = ap (λ (l : List ℕ). getD l source 0) (q .places-zero) ∙ zeros-at (nodesOf starts) source
+
+  pub going-first :
+      (cleared heap′ places′ : List ℕ) → cleared ≡ replicate (length labels) 0 → Heap heap′ places′ 1 → With source places places′ →
+      Going starts heads weights blocked source (set cleared source 1) heap′ places′ 1 All
+  going-first cleared heap′ places′ e h w =
+      subst (λ (l : List ℕ). Going starts heads weights blocked source (set l source 1) heap′ places′ 1 All) (sym (e ∙ ap blank (q .room)))
+      (first-going starts heads weights blocked source (q .sound) (q .node) heap′ places′ h (subst (λ (l : List ℕ). With source l places′) (q .places-zero) w))

@@ -31,8 +31,8 @@ pub record State (starts heads weights blocked : List ℕ) (source : ℕ) (label
 -- the arcs that P allows, of nodes that have a label and do not wait, lead to labels that are small enough
 pub record Closed (starts heads weights blocked : List ℕ) (source : ℕ) (labels places : List ℕ) (P : ℕ → ℕ → Type 0) : Type 0 where
   pub closed :
-    (u v w : ℕ) → getD labels u 0 ≢ 0 → getD places u 0 ≡ 0 → Open blocked source u → (a : Arc starts heads weights u v w) → P u (a .place) →
-    Reached labels v (getD labels u 0 + w)
+      (u v w : ℕ) → getD labels u 0 ≢ 0 → getD places u 0 ≡ 0 → Open blocked source u → (a : Arc starts heads weights u v w) → P u (a .place) →
+      Reached labels v (getD labels u 0 + w)
 
 -- every waiting node has a label
 pub record Labelled (labels places : List ℕ) : Type 0 where
@@ -50,8 +50,8 @@ Upto u i x p = (x ≡ u) → p < i
 pub data Offered (v x : ℕ) (labels places : List ℕ) (count : ℕ) (labels′ places′ : List ℕ) (count′ : ℕ) : Type 0 where
   refused : Reached labels v x → labels′ ≡ labels → places′ ≡ places → count′ ≡ count → Offered v x labels places count labels′ places′ count′
   taken :
-    Sooner x (getD labels v 0) → labels′ ≡ set labels v x → Waits places′ v → ((y : ℕ) → Waits places y → Waits places′ y) →
-    ((y : ℕ) → Waits places′ y → (y ≡ v) ⊎ Waits places y) → count′ ≤ count + 1 → Offered v x labels places count labels′ places′ count′
+      Sooner x (getD labels v 0) → labels′ ≡ set labels v x → Waits places′ v → ((y : ℕ) → Waits places y → Waits places′ y) →
+      ((y : ℕ) → Waits places′ y → (y ≡ v) ⊎ Waits places y) → count′ ≤ count + 1 → Offered v x labels places count labels′ places′ count′
 
 -- the sum of the labels, a node without one weighing more than any label: what falls as the search goes on
 abbrev pub heavy : ℕ → ℕ

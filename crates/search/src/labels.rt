@@ -5,13 +5,11 @@ use crate::queue::take;
 use crate::queue::up;
 use road::wide;
 ghost use mathlib.Core.Path.{_≡_};
-ghost use mathlib.Core.Logic.{_≢_};
 ghost use Prim.Native.Nat.{_+_, _≤_, _<_};
 ghost use lib.ListN.{length, getD, replicate};
-ghost use Rattle.road.specs.Limits.{overlayLimits};
-ghost use Rattle.road.specs.Roads.{nodesOf, road, Sound};
+ghost use Rattle.road.specs.Roads.{nodesOf, road};
 ghost use Rattle.search.specs.Queue.{Heap};
-ghost use Rattle.search.specs.Rows.{Row};
+ghost use Rattle.search.specs.Rows.{Asks, Row};
 ghost use Rattle.search.specs.States.{All, Going, Leaves, Offered, Upto, mass};
 
 // A label as wide as sums are.
@@ -22,7 +20,14 @@ fn long(x: u32) -> u64
 }
 
 // Offers the label x to v, which is taken where v has none or a larger one; then v waits.
-fn offer(heap: &mut [u32], places: &mut [u32], labels: &mut [u64], count: usize, v: usize, x: u64) -> usize
+fn offer(
+    heap: &mut [u32],
+    places: &mut [u32],
+    labels: &mut [u64],
+    count: usize,
+    v: usize,
+    x: u64,
+) -> usize
     requires { ⌜ Heap (now heap) (now places) count ⌝ }
     requires { ⌜ length (now labels) ≡ length (now places) ⌝ }
     requires { ⌜ v < length (now places) ⌝ }
@@ -71,4 +76,130 @@ fn relax(
         i += 1;
     }
     count
+}
+
+// Takes a node that waits, and where it may be left offers its neighbours labels.
+fn take_one(
+    starts: &[u32],
+    heads: &[u32],
+    weights: &[u32],
+    blocked: &[u8],
+    source: usize,
+    heap: &mut [u32],
+    places: &mut [u32],
+    labels: &mut [u64],
+    waiting: usize,
+) -> usize
+    requires { ⌜ Going (now starts) (now heads) (now weights) (now blocked) source (now labels) (now heap) (now places) waiting All ⌝ }
+    requires { ⌜ length (now blocked) ≡ nodesOf (now starts) ⌝ }
+    requires { ⌜ 1 ≤ waiting ⌝ }
+    ensures { λ r. ⌜ Going (now (starts .entry)) (now (heads .entry)) (now (weights .entry)) (now (blocked .entry)) source (now (labels .exit)) (now (heap .exit)) (now (places .exit)) r All ⌝ }
+    ensures { λ r. ⌜ mass (now (labels .exit)) + r < mass (now (labels .entry)) + waiting ⌝ }
+{
+    let u = take(heap, places, labels, waiting);
+    if u == source {
+        return relax(
+            starts,
+            heads,
+            weights,
+            blocked,
+            source,
+            u,
+            heap,
+            places,
+            labels,
+            waiting - 1,
+        );
+    }
+    if blocked[u] == 0 {
+        return relax(
+            starts,
+            heads,
+            weights,
+            blocked,
+            source,
+            u,
+            heap,
+            places,
+            labels,
+            waiting - 1,
+        );
+    }
+    waiting - 1
+}
+
+// Takes nodes until none waits.
+fn run(
+    starts: &[u32],
+    heads: &[u32],
+    weights: &[u32],
+    blocked: &[u8],
+    source: usize,
+    heap: &mut [u32],
+    places: &mut [u32],
+    labels: &mut [u64],
+    waiting: usize,
+)
+    requires { ⌜ Going (now starts) (now heads) (now weights) (now blocked) source (now labels) (now heap) (now places) waiting All ⌝ }
+    requires { ⌜ length (now blocked) ≡ nodesOf (now starts) ⌝ }
+    ensures { λ _. ⌜ Going (now (starts .entry)) (now (heads .entry)) (now (weights .entry)) (now (blocked .entry)) source (now (labels .exit)) (now (heap .exit)) (now (places .exit)) 0 All ⌝ }
+{
+    let mut count = waiting;
+    while 0 < count {
+        count = take_one(
+            starts,
+            heads,
+            weights,
+            blocked,
+            source,
+            heap,
+            places,
+            labels,
+            count,
+        );
+    }
+}
+
+// Fills the labels with zeros.
+fn clear_labels(s: &mut [u64])
+    ensures { λ _. ⌜ now (s .exit) ≡ replicate (length (now (s .entry))) 0 ⌝ }
+{
+    let mut i = 0;
+    while i < s.len() {
+        s[i] = 0;
+        i += 1;
+    }
+}
+
+// For every node the least weight over paths from the source with no blocked node strictly inside,
+// as a label: 0 where there is none, else the weight + 1. The queue's two slices are zeros before
+// and after.
+pub fn search(
+    starts: &[u32],
+    heads: &[u32],
+    weights: &[u32],
+    blocked: &[u8],
+    source: usize,
+    labels: &mut [u64],
+    heap: &mut [u32],
+    places: &mut [u32],
+)
+    requires { ⌜ Asks (now starts) (now heads) (now weights) (now blocked) source (now labels) (now heap) (now places) ⌝ }
+    ensures { λ _. ⌜ Row (road (now (starts .entry)) (now (heads .entry)) (now (weights .entry))) (now (blocked .entry)) source (now (labels .exit)) ⌝ }
+    ensures { λ _. ⌜ (now (heap .exit) ≡ now (heap .entry)) × (now (places .exit) ≡ now (places .entry)) ⌝ }
+{
+    clear_labels(labels);
+    labels[source] = 1;
+    add(heap, places, labels, 0, source);
+    run(
+        starts,
+        heads,
+        weights,
+        blocked,
+        source,
+        heap,
+        places,
+        labels,
+        1,
+    );
 }

@@ -2,3 +2,4 @@
 mod labels;
 mod queue;
 
+pub use labels::search;
