@@ -44,10 +44,10 @@ loop-holds : tie.Need-loop-holds Inv-loop μ-loop
 loop-holds c = relax-none _ _ _ _ _ _ _ _ _ _ _ _ (c .before .before .before .before .before .before .before .before .before .before .before .before .pre .0) (c .before .before .before .before .before .before .before .before .before .before .before .before .pre .1 .0) refl (c .before .before .wide .ensures) (c .before .before .before .before .before .before .before .before .before .before .before .before .pre .1 .1) _ (c .wide2 .ensures)
 
 mul-long : tie.Need-mul-long Inv-loop μ-loop
-mul-long c = omega (arith, row-weighed _ _ _ _ _ _ _ _ _ _ _ _ _ _ _ _ _ (c .before .loop .inv) (c .loop-test .taken))
+mul-long c = omega (arith, row-weighed _ _ _ _ _ _ _ _ _ _ _ _ _ _ _ _ _ (c .before .loop .inv) (c .loop-test .taken), row-listed _ _ _ _ _ _ _ _ _ _ _ _ _ _ _ _ _ (c .before .loop .inv) (c .loop-test .taken))
 
 shared-slice-read-long : tie.Need-shared-slice-read-long Inv-loop μ-loop
-shared-slice-read-long c = row-weighed _ _ _ _ _ _ _ _ _ _ _ _ _ _ _ _ _ (c .before .before .loop .inv) (c .before .loop-test .taken)
+shared-slice-read-long c = omega (arith, row-weighed _ _ _ _ _ _ _ _ _ _ _ _ _ _ _ _ _ (c .before .before .loop .inv) (c .before .loop-test .taken), row-listed _ _ _ _ _ _ _ _ _ _ _ _ _ _ _ _ _ (c .before .before .loop .inv) (c .before .loop-test .taken))
 
 long-requires : tie.Need-long-requires Inv-loop μ-loop
 long-requires c κs = search needs
