@@ -1,4 +1,4 @@
-// Check 6, and the checks of a set that is lent without a road graph.
+// Checks 6 and 9, and the checks of a set that is lent without a road graph.
 use crate::telling::tell;
 ghost use Prim.Native.Nat.{_≤_};
 
@@ -80,10 +80,31 @@ fn sizes() {
     size(b"set size 4097", 4097);
 }
 
+// Check 9, of two nodes and a set of 1 and 2. It asks that both are nodes, which check 8 has seen to
+// in a call.
+fn asked(label: &[u8], from: u32, to: u32) {
+    if 3 <= from {
+        return;
+    }
+    if 3 <= to {
+        return;
+    }
+    tell(label, road::check_in_set(&[0, 1, 1], from, to));
+}
+
+fn questions() {
+    asked(b"both in the set", 1, 2);
+    asked(b"the same in the set", 2, 2);
+    asked(b"the first outside", 0, 1);
+    asked(b"the second outside", 2, 0);
+    asked(b"both outside", 0, 0);
+}
+
 pub fn run() {
     sets();
     other_lengths();
     large_sets();
     lone();
     sizes();
+    questions();
 }
