@@ -6,3 +6,5 @@ pub mod Parts
 pub mod Rooms
 pub mod Ends
 pub mod Outcomes
+pub mod Unique
+pub mod Demands
