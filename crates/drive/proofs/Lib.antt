@@ -1,0 +1,3 @@
+-- The laws of thinned drives, the call's promises, and what it rules out.
+pub mod Picks
+pub mod Outcomes
