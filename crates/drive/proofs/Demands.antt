@@ -1,17 +1,16 @@
 -- What the thinning call promises, of every outcome that its contract allows.
-use mathlib.Core.Path.{_≡_, refl, sym, ap, subst, _∙_}
-use mathlib.Core.Logic.{_⊎_, inl, inr, _≢_}
+use mathlib.Core.Path.{_≡_, refl, sym, ap, subst}
 use mathlib.Core.List.{List, [], _∷_, _++_}
-use Prim.Native.Nat.{ℕ, _+_, _≤_, _<_}
+use Prim.Native.Nat.{ℕ, _+_, _≤_}
 use native.Mathlib.Omega.{arith}
 use lib.ListN.{length, getD, take, drop}
 use lib.Seq.{take-append-seam}
-use Rattle.paths.specs.Lists.{Mem, Different}
+use Rattle.paths.specs.Lists.{Different}
 use Rattle.road.specs.Chains.{driveFaults}
 use Rattle.road.specs.Faults.{BadK, lengthFault}
 use Rattle.road.specs.Limits.{roadLimits}
-use Rattle.road.specs.Refusals.{Singles, First, None, Said, refusal, answer}
-use Rattle.road.specs.Roads.{nodesOf, road, Sound}
+use Rattle.road.specs.Refusals.{Singles, Said, refusal, answer}
+use Rattle.road.specs.Roads.{road, Sound}
 use Rattle.road.proofs.Faults.{not-over}
 use Rattle.road.proofs.Refusals.{of-single, first-one, first-not-none, none-front, number-some, unheld}
 use Rattle.road.proofs.Verdicts.{singles-both, drive-singles}
@@ -21,14 +20,10 @@ use Rattle.cover.specs.Rule.{PathOf}
 use Rattle.cover.proofs.Demands as covers
 use Rattle.drive.specs.Calls.{Outcome, refused, thinned, faultsOf}
 use Rattle.drive.specs.Promise.{stretch, Includes, KeepsSet}
-use Rattle.drive.specs.Thinning.{IsDrive, Kept, ListOf, ThinnedDrive}
+use Rattle.drive.specs.Thinning.{IsDrive, ThinnedDrive}
 use Rattle.drive.proofs.Outcomes.{input-sound, input-drive}
-use Rattle.drive.proofs.Picks.{list-one}
+use Rattle.drive.proofs.Alike.{thinned-one}
 use Rattle.drive.proofs.Rows.{row-kept, stretch-path}
-
--- the thinned drive is one
-pub thinned-one : (bytes drive l m : List ℕ) → ThinnedDrive bytes drive l → ThinnedDrive bytes drive m → l ≡ m
-thinned-one bytes drive l m = list-one l m
 
 module _ (starts heads weights bytes drive positions : List ℕ) where
   all-singles : Singles (faultsOf starts heads weights bytes drive positions)

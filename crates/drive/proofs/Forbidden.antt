@@ -1,19 +1,18 @@
 -- Wrong versions that the contract rules out, where no edit of the code has the same shape.
-use mathlib.Core.Path.{_≡_, refl, sym, ap, subst, _∙_}
-use mathlib.Core.Logic.{_⊎_, inl, inr, _≢_}
-use mathlib.Core.List.{List, [], _∷_, _++_}
+use mathlib.Core.Path.{_≡_, refl, ap}
+use mathlib.Core.Logic.{_≢_}
+use mathlib.Core.List.{List, [], _∷_}
 use Prim.Native.Nat.{ℕ, zero, suc, _+_, _≤_, _<_}
 use native.Mathlib.Omega.{arith}
 use lib.ListN.{length, getD, take}
 use lib.Seq.{getD-take}
 use Rattle.paths.specs.Graphs.{Proper}
-use Rattle.paths.specs.Lists.{Mem, Each}
 use Rattle.paths.proofs.Lists.{each-mem, mem-at}
 use Rattle.paths.proofs.Weights.{path-short}
 use Rattle.road.specs.Drives.{Joined}
 use Rattle.road.specs.Limits.{mostDrive, roadLimits}
 use Rattle.road.specs.Refusals.{None, Said, answer}
-use Rattle.road.specs.Roads.{nodesOf, Owns, Arc, road, Sound}
+use Rattle.road.specs.Roads.{nodesOf, road, Sound}
 use Rattle.road.proofs.Faults.{none-of-sound, set-clear}
 use Rattle.road.proofs.Refusals.{first-not-none, untold}
 use Rattle.road.proofs.Rows.{owner-node}

@@ -1,5 +1,5 @@
 -- The call: what its checks leave, and from them to the outcome.
-use mathlib.Core.Path.{_≡_, refl, sym, ap, subst, subst₂, _∙_}
+use mathlib.Core.Path.{_≡_, sym, ap, subst, subst₂, _∙_}
 use mathlib.Core.Logic.{_⊎_, inl, inr, _≢_}
 use mathlib.Core.List.{List, [], _∷_, _++_}
 use Prim.Native.Nat.{ℕ, zero, suc, _+_, _≤_, _<_}
@@ -13,7 +13,7 @@ use Rattle.road.specs.Chains.{driveFaults}
 use Rattle.road.specs.Drives.{Joined, BadDrive, none, many, outside, apart, driveFault}
 use Rattle.road.specs.Faults.{BadSet, setFault, graphFaults, lengthFault}
 use Rattle.road.specs.Limits.{mostDrive, roadLimits}
-use Rattle.road.specs.Refusals.{First, None, Judged, Judges, refusal, answer}
+use Rattle.road.specs.Refusals.{None, Judged, Judges, refusal, answer}
 use Rattle.road.specs.Roads.{nodesOf, Owns, Sound}
 use Rattle.road.proofs.Faults.{not-over, not-unlike, sound-of}
 use Rattle.road.proofs.Refusals.{judged-alone, stops, goes-on, none-front, unheld}

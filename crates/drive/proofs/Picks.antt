@@ -1,4 +1,4 @@
--- Ascending lists: two of the same numbers are equal; and the pass over the drive, position by position.
+-- The pass over the drive, position by position.
 use mathlib.Core.Path.{_≡_, refl, sym, ap, subst, subst₂, _∙_}
 use mathlib.Core.Bool.{true, false}
 use mathlib.Core.Logic.{_⊎_, inl, inr, ⊎-elim, _≢_}
@@ -15,32 +15,7 @@ use Rattle.road.specs.Refusals.{Tells}
 use Rattle.road.proofs.Refusals.{tells-yes, tells-no}
 use Rattle.drive.specs.Thinning.{Ascending, ListOf, Kept, KeptBefore, Fits, Picking, ThinnedDrive}
 
--- the first number of an ascending list is the least
-least-first : (x y : ℕ) (l : List ℕ) → Each (λ (z : ℕ). y < z) l → Mem x (y ∷ l) → y ≤ x
-least-first x y l e (inl q) = omega arith
-least-first x y l e (inr h) = omega (arith, each-mem (λ (z : ℕ). y < z) x l e h)
-
--- what stands in the list but is not the first stands after it
-after-first : (x y : ℕ) (l : List ℕ) → y < x → Mem x (y ∷ l) → Mem x l
-after-first x y l h (inl q) = absurd (omega arith)
-after-first x y l h (inr m) = m
-
-same-numbers : (l m : List ℕ) → Ascending l → Ascending m → ((i : ℕ) → Mem i l → Mem i m) → ((i : ℕ) → Mem i m → Mem i l) → l ≡ m
-same-numbers [] [] a b f g = refl
-same-numbers [] (y ∷ m) a b f g = absurd (g y (inl refl))
-same-numbers (x ∷ l) [] a b f g = absurd (f x (inl refl))
-same-numbers (x ∷ l) (y ∷ m) a b f g =
-    let first : x ≡ y = omega (arith, least-first x y m (b .0) (f x (inl refl)), least-first y x l (a .0) (g y (inl refl))) in
-    let rest : l ≡ m =
-    same-numbers l m (a .1) (b .1) (λ i h. after-first i y m (omega (arith, each-mem (λ (z : ℕ). x < z) i l (a .0) h, first)) (f i (inr h)))
-    (λ i h. after-first i x l (omega (arith, each-mem (λ (z : ℕ). y < z) i m (b .0) h, first)) (g i (inr h))) in
-    ap (λ (z : ℕ). z ∷ l) first ∙ ap (λ (k : List ℕ). y ∷ k) rest
-
--- the ascending list of some numbers is one
-pub list-one : {P : ℕ → Type 0} (l m : List ℕ) → ListOf P l → ListOf P m → l ≡ m
-list-one l m f g = same-numbers l m (f .ascends) (g .ascends) (λ i h. g .all i (f .only i h)) (λ i h. f .all i (g .only i h))
-
--- and it depends on the numbers alone
+-- the ascending list of some numbers depends on the numbers alone
 pub list-same : {P Q : ℕ → Type 0} (l : List ℕ) → ((i : ℕ) → P i → Q i) → ((i : ℕ) → Q i → P i) → ListOf P l → ListOf Q l
 list-same l f g o = record { ascends = o .ascends; only = λ i h. f i (o .only i h); all = λ i q. o .all i (g i q) }
 

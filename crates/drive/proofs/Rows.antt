@@ -1,16 +1,14 @@
 -- Positions in a row: the nodes at them are a path where they are different, and a point of it is a position that is kept.
 use mathlib.Core.Path.{_≡_, refl, sym, ap, subst, _∙_}
-use mathlib.Core.List.{List, [], _∷_}
+use mathlib.Core.List.{List, _∷_}
 use Prim.Native.Nat.{ℕ, zero, suc, _+_, _≤_, _<_}
 use native.Mathlib.Numerals.{add-one}
 use native.Mathlib.Omega.{arith}
 use lib.ListN.{length, getD, take, drop, length-drop}
 use lib.Seq.{drop-cons, getD-drop, getD-take, length-take-le}
-use Rattle.paths.specs.Graphs.{Along, stop, step, IsPath}
+use Rattle.paths.specs.Graphs.{Along, stop, step}
 use Rattle.paths.specs.Lists.{Mem, Different}
 use Rattle.paths.proofs.Lists.{place-of}
-use Rattle.road.specs.Drives.{Joined}
-use Rattle.road.specs.Faults.{InSet}
 use Rattle.road.specs.Roads.{Arc, road}
 use Rattle.cover.specs.Promise.{Covers}
 use Rattle.cover.specs.Rule.{PathOf}
