@@ -22,7 +22,7 @@ use Rattle.drive.specs.Calls.{Outcome, refused, thinned, faultsOf}
 use Rattle.drive.specs.Promise.{stretch, Includes, KeepsSet}
 use Rattle.drive.specs.Thinning.{IsDrive, ThinnedDrive}
 use Rattle.drive.proofs.Outcomes.{input-sound, input-drive}
-use Rattle.drive.proofs.Alike.{thinned-one}
+use Rattle.drive.proofs.Unique.{thinned-one}
 use Rattle.drive.proofs.Rows.{row-kept, stretch-path}
 
 module _ (starts heads weights bytes drive positions : List ℕ) where

@@ -78,8 +78,8 @@ against-the-ring o = no-arc (pairs-joined o 0 (omega arith))
         let place : j .place ≡ 2 = omega (arith, j .owned .from, j .owned .below) in
         omega (arith, ap (λ (p : ℕ). getD {A = ℕ} (1 ∷ 2 ∷ 0 ∷ []) p 0) place, j .head)
 
--- It keeps more than the set asks. Two nodes joined both ways and k = 3: no path has three nodes, so the empty set is a cover, and of
--- a van that turns back and forth over 0, 1, 0 nothing is kept. The statement on k positions in a row does not hold of it.
+-- It keeps something for a van that turns back and forth. Two nodes joined both ways and k = 3: no path has three nodes, so the empty set
+-- is a cover, and of the drive 0, 1, 0 nothing is kept. Three positions in a row whose nodes are not different have no assurance.
 module _ (weights : List ℕ) where
   abbrev Pair : List ℕ → Type 0
   Pair l = PathOf (road (0 ∷ 1 ∷ 2 ∷ []) (1 ∷ 0 ∷ []) weights) 3 l
