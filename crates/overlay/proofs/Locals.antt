@@ -20,6 +20,9 @@ use Rattle.overlay.specs.Overlays.{Outside, OverlayArc, HasArc, Arcs, no
 use Rattle.overlay.specs.Writing.{Searching, Local, Found, Light, Fits, RowRoom, Enough}
 use Rattle.overlay.proofs.Numbers.{number-one, number-few, number-rise, number-none, number-of, number-map}
 
+pub has-arc : {G : Graph} {chosen : List ℕ} {a b w : ℕ} → OverlayArc G chosen a b w → HasArc G chosen a b
+has-arc {w = w} x = record { tail = x .tail; head = x .head; apart = x .apart; weight = w; some = x .least .is }
+
 -- a node of the set is one of its bytes
 pub in-bytes : (chosen : List ℕ) (v : ℕ) → InSet chosen v → v < length chosen
 in-bytes chosen v i = by (decLt v (length chosen))
@@ -73,37 +76,32 @@ module _ (chosen labels : List ℕ) (a : ℕ) where
 module _ (G : Graph) (chosen : List ℕ) (as-long : length chosen ≡ G .nodes) (a : ℕ) where
   -- no arcs leave a node outside the set
   pub none-outside : Outside chosen a → Number (HasArc G chosen a) (G .nodes) 0
-  none-outside o = number-none (G .nodes) (λ v h x. o (x .1 .tail))
+  none-outside o = number-none (G .nodes) (λ v h x. o (x .tail))
 
   module _ (member : InSet chosen a) (labels : List ℕ) (l : Local G chosen a labels) where
     pub found-arc : (b w : ℕ) → Found chosen labels a b → getD labels b 0 ≡ suc w → OverlayArc G chosen a b w
     found-arc b w f e =
         record { tail = member; head = f .head; apart = f .apart; least = l .told b (omega (arith, in-bytes chosen b (f .head), as-long)) .some w e }
 
-    pub arc-label : (b w : ℕ) → OverlayArc G chosen a b w → getD labels b 0 ≡ suc w
-    arc-label b w x = by (getD labels b 0) refl
-      where
-        here : Told (Reaches G (Outside chosen) a b) (getD labels b 0)
-        here = l .told b (omega (arith, in-bytes chosen b (x .head), as-long))
-
-        by : (y : ℕ) → getD labels b 0 ≡ y → getD labels b 0 ≡ suc w
-        by zero e = absurd (here .none e .none w (x .least .is))
-        by (suc d) e = e ∙ ap suc (least-one (here .some d e) (x .least))
-
-    pub arc-found : (b w : ℕ) → OverlayArc G chosen a b w → Found chosen labels a b
-    arc-found b w x = record { head = x .head; apart = x .apart; label = λ z. omega (arith, arc-label b w x) }
+    pub arc-found : (b : ℕ) → HasArc G chosen a b → Found chosen labels a b
+    arc-found b x =
+        record {
+          head = x .head;
+          apart = x .apart;
+          label = λ z. l .told b (omega (arith, in-bytes chosen b (x .head), as-long)) .none z .none (x .weight) (x .some);
+        }
 
     found-has : (b : ℕ) → Found chosen labels a b → HasArc G chosen a b
     found-has b f = by (getD labels b 0) refl
       where
         by : (y : ℕ) → getD labels b 0 ≡ y → HasArc G chosen a b
         by zero e = absurd (f .label e)
-        by (suc d) e = (d, found-arc b d f e)
+        by (suc d) e = has-arc (found-arc b d f e)
 
     pub counted-row : (r : ℕ) → Number (Found chosen labels a) (length chosen) r → Number (HasArc G chosen a) (G .nodes) r
     counted-row r x =
         subst (λ (n : ℕ). Number (HasArc G chosen a) n r) as-long
-        (number-map (λ v h f. found-has v f) (λ v h y. arc-found v (y .0) (y .1)) x)
+        (number-map (λ v h f. found-has v f) (λ v h y. arc-found v y) x)
 
     pub fits-of : Light G chosen → Fits chosen labels a
     fits-of g = record { fits = small }

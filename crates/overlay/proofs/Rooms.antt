@@ -162,7 +162,7 @@ module _ (starts heads weights chosen labels heap places : List ℕ) (s : Search
                       arcs =
                           λ p l q.
                           subst₂ (λ (b w : ℕ). OverlayArc (road starts heads weights) chosen a b w) (sym (head-is p l)) (sym (weight-is p l)) (written .arcs (p - m) (omega arith) (omega arith));
-                      all = λ b w z. there b w z;
+                      all = λ b z. there b z;
                     }
                   where
                     rising : (p : ℕ) → m ≤ p → p + 1 < m + r → getD (putMid m (length xs - m) xs ys) p 0 < getD (putMid m (length xs - m) xs ys) (p + 1) 0
@@ -171,9 +171,9 @@ module _ (starts heads weights chosen labels heap places : List ℕ) (s : Search
                         omega
                         (arith, head-is p l, head-is (p + 1) (omega arith), ap (λ (z : ℕ). getD ys z 0) next, written .ascends (p - m) (omega arith) (omega arith))
 
-                    there : (b w : ℕ) → OverlayArc (road starts heads weights) chosen a b w → (p : ℕ) × (m ≤ p) × (p < m + r) × (getD (putMid m (length xs - m) xs ys) p 0 ≡ b)
-                    there b w z =
-                        let t = written .all b w z in
+                    there : (b : ℕ) → HasArc (road starts heads weights) chosen a b → (p : ℕ) × (m ≤ p) × (p < m + r) × (getD (putMid m (length xs - m) xs ys) p 0 ≡ b)
+                    there b z =
+                        let t = written .all b z in
                         (m + t .0, omega arith, omega (arith, t .2), heads-at (t .0) ∙ t .3)
 
       -- a tail outside the set has an empty row
@@ -186,7 +186,7 @@ module _ (starts heads weights chosen labels heap places : List ℕ) (s : Search
                   rises = omega arith;
                   ascends = λ p l q. absurd (omega arith);
                   arcs = λ p l q. absurd (omega arith);
-                  all = λ b w y. absurd (outside z (y .tail));
+                  all = λ b y. absurd (outside z (y .tail));
                 };
             counted = subst (λ (k : ℕ). Arcs (road starts heads weights) chosen k m) (add-one a) (tail-skipped z);
             heads-before = λ p l. refl;
@@ -225,12 +225,12 @@ module _ (G : Graph) (chosen heads₀ weights₀ : List ℕ) where
         rises = x .rises;
         ascends = λ p l q. omega (arith, x .ascends p l q, f p (omega arith), f (p + 1) (omega arith));
         arcs = λ p l q. subst₂ (λ (b w : ℕ). OverlayArc G chosen u b w) (sym (f p (omega arith))) (sym (g p (omega arith))) (x .arcs p l q);
-        all = λ b w y. there b w y;
+        all = λ b y. there b y;
       }
     where
-      there : (b w : ℕ) → OverlayArc G chosen u b w → (p : ℕ) × (from ≤ p) × (p < to) × (getD heads′ p 0 ≡ b)
-      there b w y =
-          let t = x .all b w y in
+      there : (b : ℕ) → HasArc G chosen u b → (p : ℕ) × (from ≤ p) × (p < to) × (getD heads′ p 0 ≡ b)
+      there b y =
+          let t = x .all b y in
           (t .0, t .1, t .2, f (t .0) (omega (arith, t .2)) ∙ t .3)
 
   module _ (a : ℕ) (starts heads weights : List ℕ) (c : ℕ) (g : Building G chosen a heads₀ weights₀ starts heads weights c) (h : a < G .nodes) where

@@ -14,7 +14,7 @@ use Rattle.road.specs.Roads.{nodesOf, Owns, Arc, Rising}
 use Rattle.road.proofs.Rows.{owner-node, owned-listed, owner-of}
 use Rattle.overlay.specs.Numbers.{Number, none, one, skip}
 use Rattle.overlay.specs.Overlays.{OverlayArc, HasArc, RowAt, OverlayOf, Arcs, row, ArcsInAll}
-use Rattle.overlay.proofs.Locals.{in-bytes}
+use Rattle.overlay.proofs.Locals.{in-bytes, has-arc}
 use Rattle.overlay.proofs.Numbers.{number-one}
 
 module _ (G : Graph) (chosen : List ℕ) (a : ℕ) where
@@ -49,7 +49,7 @@ module _ (G : Graph) (chosen : List ℕ) (a : ℕ) where
           after = λ p l k. omega (arith, apart (s .place) p (s .least) (omega arith) k);
           number =
               subst (λ (m : ℕ). Number (HasArc G chosen a) (suc v) m) (omega (arith, s .least))
-              (one (getD weights (s .place) 0, subst (λ (b : ℕ). OverlayArc G chosen a b (getD weights (s .place) 0)) e (x .arcs (s .place) (s .least) h)) (s .number));
+              (one (has-arc (subst (λ (b : ℕ). OverlayArc G chosen a b (getD weights (s .place) 0)) e (x .arcs (s .place) (s .least) h))) (s .number));
         }
       where
         before-by : (p : ℕ) → from ≤ p → p < suc (s .place) → Dec (p ≡ s .place) → getD heads p 0 < suc v
@@ -65,7 +65,7 @@ module _ (G : Graph) (chosen : List ℕ) (a : ℕ) where
               most = s .most;
               before = λ p l k. omega (arith, s .before p l k);
               after = after-it;
-              number = skip (λ z. none-there (z .0) (z .1)) (s .number);
+              number = skip none-there (s .number);
             }
           where
             after-by : (p : ℕ) → s .place ≤ p → p < to → Dec (p ≡ s .place) → suc v ≤ getD heads p 0
@@ -75,8 +75,8 @@ module _ (G : Graph) (chosen : List ℕ) (a : ℕ) where
             after-it : (p : ℕ) → s .place ≤ p → p < to → suc v ≤ getD heads p 0
             after-it p l k = after-by p l k (ℕ-discrete p (s .place))
 
-            none-there : (w : ℕ) → OverlayArc G chosen a v w → ⊥
-            none-there w y = by (x .all v w y .0) (x .all v w y .1) (x .all v w y .2) (x .all v w y .3) (decLt (x .all v w y .0) (s .place))
+            none-there : HasArc G chosen a v → ⊥
+            none-there y = by (x .all v y .0) (x .all v y .1) (x .all v y .2) (x .all v y .3) (decLt (x .all v y .0) (s .place))
               where
                 by : (p : ℕ) → from ≤ p → p < to → getD heads p 0 ≡ v → Dec (p < s .place) → ⊥
                 by p l k e (yes h) = omega (arith, s .before p l h)
@@ -88,11 +88,11 @@ module _ (G : Graph) (chosen : List ℕ) (a : ℕ) where
           most = s .most;
           before = λ p l k. omega (arith, s .before p l k);
           after = λ p l k. absurd (omega arith);
-          number = skip (λ z. none-there (z .0) (z .1)) (s .number);
+          number = skip none-there (s .number);
         }
       where
-        none-there : (w : ℕ) → OverlayArc G chosen a v w → ⊥
-        none-there w y = omega (arith, s .before (x .all v w y .0) (x .all v w y .1) (omega (arith, x .all v w y .2)), x .all v w y .3)
+        none-there : HasArc G chosen a v → ⊥
+        none-there y = omega (arith, s .before (x .all v y .0) (x .all v y .1) (omega (arith, x .all v y .2)), x .all v y .3)
 
     split : (v : ℕ) → Split heads from to v
     split zero =
@@ -158,7 +158,7 @@ module _ (G : Graph) (chosen : List ℕ) (a : ℕ) where
 
         pub row-heads : getD heads (from + j) 0 ≡ getD heads′ (from′ + j) 0
         row-heads =
-            let t = y .all (getD heads (from + j) 0) (getD weights (from + j) 0) arc in
+            let t = y .all (getD heads (from + j) 0) (has-arc arc) in
             sym (t .3) ∙ ap (λ (p : ℕ). getD heads′ p 0) (at (t .0) (t .1) (t .2) (t .3))
 
         pub row-weights : getD weights (from + j) 0 ≡ getD weights′ (from′ + j) 0
@@ -185,21 +185,26 @@ module _ (G : Graph) (chosen starts heads weights : List ℕ) (o : OverlayOf G c
       (subst (λ (y : ℕ). OverlayArc G chosen a y (getD weights (x .place) 0)) (x .head)
       (o .rows a (omega (arith, owner-node starts a (x .place) (x .owned), as-nodes)) .arcs (x .place) (x .owned .from) (x .owned .below)))
 
-  pub arc-written : length chosen ≡ G .nodes → (a b w : ℕ) → OverlayArc G chosen a b w → Arc starts heads weights a b w
-  arc-written e a b w x = found (r .all b w x)
+  -- each pair of the definition has its arc
+  pub pair-written : length chosen ≡ G .nodes → (a b : ℕ) → HasArc G chosen a b → (w : ℕ) × Arc starts heads weights a b w
+  pair-written e a b x = found (o .rows a (omega (arith, e, in-bytes chosen a (x .tail))) .all b x)
     where
-      r : RowAt G chosen a heads weights (getD starts a 0) (getD starts (a + 1) 0)
-      r = o .rows a (omega (arith, e, in-bytes chosen a (x .tail)))
+      found : (p : ℕ) × (getD starts a 0 ≤ p) × (p < getD starts (a + 1) 0) × (getD heads p 0 ≡ b) → (w : ℕ) × Arc starts heads weights a b w
+      found t = (
+        getD weights (t .0) 0,
+        record {
+          place = t .0;
+          listed = owned-listed starts heads overlay-rises a (t .0) (record { from = t .1; below = t .2 });
+          owned = record { from = t .1; below = t .2 };
+          head = t .3;
+          weight = refl;
+        },
+      )
 
-      found : (p : ℕ) × (getD starts a 0 ≤ p) × (p < getD starts (a + 1) 0) × (getD heads p 0 ≡ b) → Arc starts heads weights a b w
-      found t =
-          record {
-            place = t .0;
-            listed = owned-listed starts heads overlay-rises a (t .0) (record { from = t .1; below = t .2 });
-            owned = record { from = t .1; below = t .2 };
-            head = t .3;
-            weight = least-one (subst (λ (y : ℕ). OverlayArc G chosen a y (getD weights (t .0) 0)) (t .3) (r .arcs (t .0) (t .1) (t .2)) .least) (x .least);
-          }
+  pub arc-written : length chosen ≡ G .nodes → (a b w : ℕ) → OverlayArc G chosen a b w → Arc starts heads weights a b w
+  arc-written e a b w x =
+      let t = pair-written e a b (has-arc x) in
+      subst (λ (y : ℕ). Arc starts heads weights a b y) (least-one (written-arc a b (t .0) (t .1) .least) (x .least)) (t .1)
 
   -- each once
   pub written-once : (a p q : ℕ) → Owns starts a p → Owns starts a q → getD heads p 0 ≡ getD heads q 0 → p ≡ q

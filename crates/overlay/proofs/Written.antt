@@ -13,7 +13,7 @@ use Rattle.road.specs.Faults.{InSet}
 use Rattle.overlay.specs.Numbers.{Number, one, skip}
 use Rattle.overlay.specs.Overlays.{Outside, OverlayArc, HasArc, RowAt, Arcs, row, ArcsInAll}
 use Rattle.overlay.specs.Writing.{Local, Found, Light, Fits, RowRoom, Enough, WroteArc, put, left, Wrote, RowWritten, Building}
-use Rattle.overlay.proofs.Locals.{in-bytes, none-outside, found-arc, arc-label, arc-found, counted-row}
+use Rattle.overlay.proofs.Locals.{in-bytes, none-outside, found-arc, arc-found, counted-row}
 
 pub as-wide : (i n m : ℕ) → i < n → m ≡ n → i < m
 as-wide i n m h e = omega arith
@@ -147,10 +147,10 @@ module _ (chosen labels : List ℕ) (a : ℕ) where
         rises = omega arith;
         ascends = λ p _ h. g .ascends p h;
         arcs = λ p _ h. found-arc G chosen as-long a i labels l (getD heads p 0) (getD weights p 0) (g .found p h) (g .weighed p h);
-        all = λ b w x. there b w x;
+        all = λ b x. there b x;
       }
     where
-      there : (b w : ℕ) → OverlayArc G chosen a b w → (p : ℕ) × (0 ≤ p) × (p < r) × (getD heads p 0 ≡ b)
-      there b w x =
-          let y = g .all b (in-bytes chosen b (x .head)) (arc-found G chosen as-long a i labels l b w x) in
+      there : (b : ℕ) → HasArc G chosen a b → (p : ℕ) × (0 ≤ p) × (p < r) × (getD heads p 0 ≡ b)
+      there b x =
+          let y = g .all b (in-bytes chosen b (x .head)) (arc-found G chosen as-long a i labels l b x) in
           (y .0, omega arith, y .1, y .2)

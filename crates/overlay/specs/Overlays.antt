@@ -21,16 +21,20 @@ pub record OverlayArc (G : Graph) (chosen : List ℕ) (a b w : ℕ) : Type 0 whe
   pub apart : a ≢ b
   pub least : Least (Reaches G (Outside chosen) a b) w
 
--- there is one, whatever it weighs
-abbrev pub HasArc : Graph → List ℕ → ℕ → ℕ → Type 0
-HasArc G chosen a b = (w : ℕ) × OverlayArc G chosen a b w
+-- there is one, whatever it weighs: a and b are different nodes of the set, and some path has no node of the set strictly between them
+pub record HasArc (G : Graph) (chosen : List ℕ) (a b : ℕ) : Type 0 where
+  pub tail : InSet chosen a
+  pub head : InSet chosen b
+  pub apart : a ≢ b
+  pub weight : ℕ
+  pub some : Reaches G (Outside chosen) a b weight
 
 -- the row of tail a is at the places from `from` up to, but not including, `to`: its arcs and no others, heads ascending
 pub record RowAt (G : Graph) (chosen : List ℕ) (a : ℕ) (heads weights : List ℕ) (from to : ℕ) : Type 0 where
   pub rises : from ≤ to
   pub ascends : (p : ℕ) → from ≤ p → p + 1 < to → getD heads p 0 < getD heads (p + 1) 0
   pub arcs : (p : ℕ) → from ≤ p → p < to → OverlayArc G chosen a (getD heads p 0) (getD weights p 0)
-  pub all : (b w : ℕ) → OverlayArc G chosen a b w → (p : ℕ) × (from ≤ p) × (p < to) × (getD heads p 0 ≡ b)
+  pub all : (b : ℕ) → HasArc G chosen a b → (p : ℕ) × (from ≤ p) × (p < to) × (getD heads p 0 ≡ b)
 
 -- the three lists are the overlay of the set: the rows of all nodes in order, each from where the former ended
 pub record OverlayOf (G : Graph) (chosen starts heads weights : List ℕ) : Type 0 where
