@@ -5,3 +5,5 @@ pub mod Nodes
 pub mod Gates
 pub mod Asked
 pub mod Outcomes
+pub mod Crossing
+pub mod Demands
