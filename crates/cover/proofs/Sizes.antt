@@ -233,27 +233,28 @@ module _ (starts heads weights starts′ heads′ weights′ cover s : List ℕ)
 
     pub two-fit :
         (at but out into second q p first : ℕ) → at ≡ v → Row starts heads at (Below cover s but out) → Row starts′ heads′ at (Below cover s but into) → Larger out into second → p ≡ but →
-        q ≡ getD s p 0 → Larger second q first → first + second + 1 < k → Fits (road starts heads weights) k cover s v (first + second + 1)
-    two-fit at but out into second q p first e f f′ l pe qe m h =
-        fits-two (road-proper overlayLimits starts heads weights (g .sound)) (t .pieced) v but first second
+        q ≡ getD s p 0 → Larger second q first → (size : ℕ) → size ≡ first + second + 1 → size < k → Fits (road starts heads weights) k cover s v size
+    two-fit at but out into second q p first e f f′ l pe qe m size z h =
+        rw z
+        (fits-two (road-proper overlayLimits starts heads weights (g .sound)) (t .pieced) v but first second
         (others-forth v but out second (subst (λ (x : ℕ). Row starts heads x (Below cover s but out)) e f) (l .left))
         (others-back v but into second (subst (λ (x : ℕ). Row starts′ heads′ x (Below cover s but into)) e f′) (l .right))
-        (omega (arith, m .right, ap (λ (x : ℕ). getD s x 0) pe)) (m .left) h
+        (omega (arith, m .right, ap (λ (x : ℕ). getD s x 0) pe)) (m .left) (omega arith))
 
-    -- v is dropped
-    module _ (r : ℕ) (f : Fits (road starts heads weights) k cover s v r) (h : v < length cover) (at at′ : ℕ) (e : at ≡ v) (e′ : at′ ≡ v) where
-      pub still-prunable : Prunable starts heads weights starts′ heads′ weights′ (set cover at 0)
-      still-prunable = prunable-still starts heads weights starts′ heads′ weights′ cover (set cover at 0) g (length-set cover at 0)
+    -- v is dropped, which is byte 0
+    module _ (r : ℕ) (f : Fits (road starts heads weights) k cover s v r) (h : v < length cover) (at at′ byte : ℕ) (e : at ≡ v) (e′ : at′ ≡ v) (z : byte ≡ 0) where
+      pub still-prunable : Prunable starts heads weights starts′ heads′ weights′ (set cover at byte)
+      still-prunable = prunable-still starts heads weights starts′ heads′ weights′ cover (set cover at byte) g (length-set cover at byte)
 
-      pub drop-spreads : (size : ℕ) → size ≡ r → Spreads (road starts heads weights) (set cover at 0) size (set s at′ size) (set pieces 0 v) 0 1
-      drop-spreads size q = rw (q, e, e′) (spread-begins (t .pieced) f h (t .sizes-long) pieces (t .pieces-long))
+      pub drop-spreads : (size : ℕ) → size ≡ r → Spreads (road starts heads weights) (set cover at byte) size (set s at′ size) (set pieces 0 v) 0 1
+      drop-spreads size q = rw (z, q, e, e′) (spread-begins (t .pieced) f h (t .sizes-long) pieces (t .pieces-long))
 
       pub drop-keeps :
-          (size : ℕ) → size ≡ r → {s′ p′ : List ℕ} → Spread (road starts heads weights) (set cover at 0) size (set s at′ size) s′ → length s′ ≡ length (set s at′ size) →
-          length p′ ≡ length (set pieces 0 v) → Kept (road starts heads weights) k (set cover at 0) s′ p′
+          (size : ℕ) → size ≡ r → {s′ p′ : List ℕ} → Spread (road starts heads weights) (set cover at byte) size (set s at′ size) s′ → length s′ ≡ length (set s at′ size) →
+          length p′ ≡ length (set pieces 0 v) → Kept (road starts heads weights) k (set cover at byte) s′ p′
       drop-keeps size q {s′} {p′} d sl pl =
           record {
-            pieced = rw e (pieced-dropped (t .pieced) f h (t .sizes-long) (road-proper overlayLimits starts heads weights (g .sound)) (rw (q, e, e′) at d));
-            sizes-long = sl ∙ length-set s at′ size ∙ t .sizes-long ∙ sym (length-set cover at 0);
-            pieces-long = pl ∙ length-set pieces 0 v ∙ t .pieces-long ∙ sym (length-set cover at 0);
+            pieced = rw (z, e) (pieced-dropped (t .pieced) f h (t .sizes-long) (road-proper overlayLimits starts heads weights (g .sound)) (rw (z, q, e, e′) at d));
+            sizes-long = sl ∙ length-set s at′ size ∙ t .sizes-long ∙ sym (length-set cover at byte);
+            pieces-long = pl ∙ length-set pieces 0 v ∙ t .pieces-long ∙ sym (length-set cover at byte);
           }

@@ -1,3 +1,4 @@
+use mathlib.Core.Path.{refl}
 use Rattle.cover.proofs.Sizes.{most-fits, two-fit}
 use Rattle.cover.proofs.Searching.{search-forth, search-back}
 use Prim.Native.Nat.{_-_}
@@ -52,7 +53,7 @@ returns-2 : tie.Need-returns-2
 returns-2 c = most-fits _ _ _ _ _ _ _ _ (c .before .before .before .before .before .before .before .before .before .before .before .before .before .before .before .before .before .before .before .before .before .before .before .pre .0) _ _ (c .before .before .before .before .before .before .before .before .before .before .before .before .before .before .before .before .before .before .before .before .before .before .before .pre .1 .1 .0) _
 
 returns-3 : tie.Need-returns-3
-returns-3 c = two-fit _ _ _ _ _ _ _ _ (c .before .before .before .before .before .before .before .before .before .before .before .before .before .before .before .before .before .before .before .before .before .before .before .pre .0) _ _ (c .before .before .before .before .before .before .before .before .before .before .before .before .before .before .before .before .before .before .before .before .before .before .before .pre .1 .1 .0) _ _ _ _ _ _ _ _ _ (c .before .before .before .before .before .before .before .before .before .before .before .before .before .wide .ensures) (c .before .before .before .before .before .before .before .before .before .before .largest .ensures) (c .before .before .before .before .before .before .before .before .before .largest2 .ensures) (c .before .before .before .before .before .before .before .before .larger .ensures) (c .before .before .before .before .before .before .before .wide2 .ensures) (c .before .before .before .before .before .wide3 .ensures) (c .before .before .before .before .larger2 .ensures) (omega (arith, c .if2 .left))
+returns-3 c = two-fit _ _ _ _ _ _ _ _ (c .before .before .before .before .before .before .before .before .before .before .before .before .before .before .before .before .before .before .before .before .before .before .before .pre .0) _ _ (c .before .before .before .before .before .before .before .before .before .before .before .before .before .before .before .before .before .before .before .before .before .before .before .pre .1 .1 .0) _ _ _ _ _ _ _ _ _ (c .before .before .before .before .before .before .before .before .before .before .before .before .before .wide .ensures) (c .before .before .before .before .before .before .before .before .before .before .largest .ensures) (c .before .before .before .before .before .before .before .before .before .largest2 .ensures) (c .before .before .before .before .before .before .before .before .larger .ensures) (c .before .before .before .before .before .before .before .wide2 .ensures) (c .before .before .before .before .before .wide3 .ensures) (c .before .before .before .before .larger2 .ensures) _ refl (omega (arith, c .if2 .left))
 
 pub size-for-spec : {M : Type 1} → statement M
 size-for-spec =
