@@ -2,21 +2,22 @@
 use mathlib.Core.Path.{_≡_, refl, sym, ap, subst, _∙_}
 use mathlib.Core.Bool.{Bool}
 use mathlib.Core.Logic.{_⊎_, inl, inr, ⊎-elim, _≢_}
-use mathlib.Core.List.{List, [], _∷_, _++_, append-assoc, append-nil, reverse, reverseAux}
+use mathlib.Core.List.{List, [], _∷_, _++_, append-assoc, append-nil}
 use Prim.Native.Nat.{ℕ, suc, _+_, _-_, _≤_, _<_}
 use native.Mathlib.Omega.{arith}
-use lib.ListN.{length, getD, length-append, length-reverseAux, length-reverse}
-use Rattle.paths.specs.Graphs.{Graph, Proper, turned, Along, stop, step, IsPath}
+use lib.ListN.{length, getD, length-reverseAux}
+use Rattle.paths.specs.Graphs.{Graph, turned, Along, stop, step}
 use Rattle.paths.specs.Lists.{Mem, Different, Each}
-use Rattle.paths.proofs.Lists.{mem-left, mem-right, mem-cases, each-mem, mem-each, different-front, different-back, parts-apart, mem-onto, onto-mem}
-use Rattle.paths.proofs.Turned.{Back, back-onto, different-onto, turned-path, turned-proper}
-use Rattle.paths.proofs.Ways.{Cut, Parts, cut-path, end-node}
+use Rattle.paths.proofs.Lists.{mem-left, mem-right, mem-cases, each-mem, mem-onto, onto-mem}
+use Rattle.paths.proofs.Turned.{Back, back-onto, different-onto, turned-proper}
+use Rattle.paths.proofs.Ways.{end-node}
 use Rattle.road.specs.declared.Limits.{Limits}
 use Rattle.road.specs.Drives.{Joined}
 use Rattle.road.specs.Refusals.{Tells}
 use Rattle.road.specs.Roads.{nodesOf, Arc, road, Sound, TurnedRound}
 use Rattle.road.proofs.Faults.{road-proper}
 use Rattle.cover.specs.Rule.{Dropped, Needed, PathOf}
+use Rattle.cover.proofs.Halves.{Halves, halves, halves-free}
 use Rattle.cover.specs.Search.{Completes, ends, longer, NoneMissing, OutwardFrom, Outward, Inward}
 
 -- each joined to the next
@@ -80,7 +81,7 @@ arc-of : (starts heads weights : List ℕ) (u v : ℕ) → Joined starts heads u
 arc-of starts heads weights u v j =
     (getD weights (j .place) 0, record { place = j .place; listed = j .listed; owned = j .owned; head = j .head; weight = refl })
 
-joined-of : {starts heads weights : List ℕ} {u v w : ℕ} → Arc starts heads weights u v w → Joined starts heads u v
+pub joined-of : {starts heads weights : List ℕ} {u v w : ℕ} → Arc starts heads weights u v w → Joined starts heads u v
 joined-of a = record { place = a .place; listed = a .listed; owned = a .owned; head = a .head }
 
 -- A chain is a way, and a way a chain.
@@ -191,36 +192,23 @@ module _ (L : Limits) (starts heads weights starts′ heads′ weights′ : List
 
     -- and where v is needed, the path can be completed
     both-of : Needed (PathOf G k) cover v → Both
-    both-of d = cut-at (cut-path (road-proper L starts heads weights g) v (d .counts .path) (subst (Mem v) (d .counts .whole) (d .on)))
+    both-of d = of (halves (road-proper L starts heads weights g) v (d .counts .path) (subst (Mem v) (d .counts .whole) (d .on)))
       where
-        cut-at : Parts (road starts heads weights) (d .counts .first) (d .counts .after) (d .counts .last) (d .counts .weight) v → Both
-        cut-at c = of (turned-path (road-proper L starts heads weights g) (c .to))
-          where
-            of : (l : List ℕ) × (v ∷ l ≡ reverse (d .counts .first ∷ c .at .front)) × IsPath (turned (road starts heads weights)) v l (d .counts .first) (c .at .before) → Both
-            of i =
-                record {
-                  before = i .0;
-                  after = c .at .back;
-                  inward = way-chain (turned (road starts heads weights)) (Joined starts′ heads′) (λ u w x a. joined-of (t .turns w u x a)) (i .2 .along);
-                  outward = way-chain (road starts heads weights) (Joined starts heads) (λ u w x a. joined-of a) (c .from .along);
-                  free-before = mem-each (Dropped cover) (i .0) (λ x h. d .others x (on-path x (inl (front-of x (inr h)))) (λ e. i .2 .different .0 (subst (λ (y : ℕ). Mem y (i .0)) e h)));
-                  free-after = mem-each (Dropped cover) (c .at .back) (λ x h. d .others x (on-path x (inr h)) (λ e. c .from .different .0 (subst (λ (y : ℕ). Mem y (c .at .back)) e h)));
-                  different-before = i .2 .different;
-                  different-after = c .from .different .1;
-                  apart = λ x h m. parts-apart x (d .counts .first ∷ c .at .front) (c .at .back) whole (front-of x h) m;
-                  long = omega (arith, ap length (i .1), length-reverse (d .counts .first ∷ c .at .front), ap length (c .at .whole), length-append (c .at .front) (c .at .back), ap length (d .counts .whole), d .counts .nodes);
-                }
-              where
-                whole : Different ((d .counts .first ∷ c .at .front) ++ c .at .back)
-                whole = subst (λ (l : List ℕ). Different (d .counts .first ∷ l)) (c .at .whole) (d .counts .path .different)
-
-                front-of : (x : ℕ) → Mem x (v ∷ i .0) → Mem x (d .counts .first ∷ c .at .front)
-                front-of x h = ⊎-elim (λ m. m) (λ z. absurd z) (onto-mem x (d .counts .first ∷ c .at .front) [] (subst (Mem x) (i .1) h))
-
-                on-path : (x : ℕ) → Mem x (d .counts .first ∷ c .at .front) ⊎ Mem x (c .at .back) → Mem x (d .path)
-                on-path x h =
-                    subst (Mem x) (sym (d .counts .whole ∙ ap (λ (l : List ℕ). d .counts .first ∷ l) (c .at .whole)))
-                    (⊎-elim (mem-left x (d .counts .first ∷ c .at .front) (c .at .back)) (mem-right x (d .counts .first ∷ c .at .front) (c .at .back)) h)
+        of : Halves (road starts heads weights) v (d .counts .first) (d .counts .after) (d .counts .last) → Both
+        of c =
+            let free = halves-free (Dropped cover) c (λ x h n. d .others x (subst (Mem x) (sym (d .counts .whole)) h) n) in
+            record {
+              before = c .before;
+              after = c .after;
+              inward = way-chain (turned (road starts heads weights)) (Joined starts′ heads′) (λ u w x a. joined-of (t .turns w u x a)) (c .to .along);
+              outward = way-chain (road starts heads weights) (Joined starts heads) (λ u w x a. joined-of a) (c .from .along);
+              free-before = free .0;
+              free-after = free .1;
+              different-before = c .to .different;
+              different-after = c .from .different .1;
+              apart = c .apart;
+              long = omega (arith, c .long, ap length (d .counts .whole), d .counts .nodes);
+            }
 
     pub needed-told : {b : Bool} → Tells b (Inward starts heads starts′ heads′ cover v (v ∷ []) v (k - 1)) → Tells b (Needed (PathOf (road starts heads weights) k) cover v)
     needed-told t = record { yes = λ e. needed-of (both (t .yes e)); no = λ e d. t .no e (inward-of (both-of d)) }

@@ -23,8 +23,10 @@ use Rattle.road.proofs.Faults.{sound-of, sound-wider, road-proper, alike-of, no
 use Rattle.road.proofs.Orders.{permuted}
 use Rattle.road.proofs.Refusals.{judged-alone, stops, goes-on, none-front, unheld}
 use Rattle.cover.specs.Calls.{Areas, Ready, Built, Outcome, refused, covered, answered, askedLengths, faultsOf}
+use Rattle.cover.specs.Pieces.{Kept}
 use Rattle.cover.specs.Rule.{PathOf, Prunes, Pruned}
 use Rattle.cover.specs.Steps.{OfK, Prunable}
+use Rattle.cover.proofs.Sizes.{pieced-none}
 
 module _ (starts heads weights : List ℕ) (k : ℕ) (order : List ℕ) (a : Areas) (r : Ready starts heads weights k order a) where
   wide-sound : Sound overlayLimits starts heads weights
@@ -40,6 +42,17 @@ module _ (starts heads weights : List ℕ) (k : ℕ) (order : List ℕ) (a : Are
   ready-to-prune cover starts′ heads′ weights′ t e f =
       record { sound = wide-sound; turned = t; as-long = omega (arith, r .starts-long, r .sound .sized .least); bytes = f ∙ r .cover-long }
 
+  -- no node is dropped yet
+  pub ready-pieces :
+      (cover sizes pieces : List ℕ) → cover ≡ replicate (length (a .cover)) 1 → length cover ≡ length (a .cover) → length sizes ≡ length (a .sizes) → length pieces ≡ length (a .pieces) →
+      Kept (road starts heads weights) k cover sizes pieces
+  ready-pieces cover sizes pieces e c s p =
+      record {
+        pieced = pieced-none (road-proper roadLimits starts heads weights (r .sound)) (e ∙ ap (λ (x : ℕ). replicate x 1) (r .cover-long)) (s ∙ r .sizes-long);
+        sizes-long = omega (arith, r .cover-long, r .sizes-long);
+        pieces-long = omega (arith, r .cover-long, r .pieces-long);
+      }
+
   pub order-of-nodes : (cover : List ℕ) → length cover ≡ length (a .cover) → Each (λ (v : ℕ). v < length cover) order
   order-of-nodes cover e =
       mem-each (λ (v : ℕ). v < length cover) order (λ v h. omega (arith, each-mem (λ (x : ℕ). x < nodesOf starts) v order (r .order-right .only) h, r .cover-long))
@@ -49,11 +62,11 @@ module _ (starts heads weights : List ℕ) (k : ℕ) (order : List ℕ) (a : Are
   cleared l n m e f = e ∙ ap (λ (x : ℕ). replicate x 0) f
 
   pub built :
-      (after : Areas) (ones : List ℕ) (s h w : ℕ) (count : ℕ) → ones ≡ replicate (length (a .cover)) 1 → Prunes (PathOf (road starts heads weights) k) order ones (after .cover) →
+      (after : Areas) (ones : List ℕ) (s h w p q : ℕ) (count : ℕ) → ones ≡ replicate (length (a .cover)) 1 → Prunes (PathOf (road starts heads weights) k) order ones (after .cover) →
       (after .starts ≡ replicate s 0) × (after .heads ≡ replicate h 0) × (after .weights ≡ replicate w 0) → s ≡ length (a .starts) → h ≡ length (a .heads) → w ≡ length (a .weights) →
-      (after .marks ≡ replicate (length (a .marks)) 0) × (after .pieces ≡ replicate (length (a .pieces)) 0) × (after .sizes ≡ replicate (length (a .sizes)) 0) →
+      (after .marks ≡ replicate (length (a .marks)) 0) × (after .pieces ≡ replicate p 0) × (after .sizes ≡ replicate q 0) → p ≡ length (a .pieces) → q ≡ length (a .sizes) →
       count ≡ times 1 (after .cover) → Built starts heads weights k order after count
-  built after ones s h w count e p z sl hl wl y c =
+  built after ones s h w l q count e p z sl hl wl y pl ql c =
       record {
         pruned = subst (λ (l : List ℕ). Prunes (PathOf (road starts heads weights) k) order l (after .cover)) (e ∙ ap (λ (x : ℕ). replicate x 1) (r .cover-long)) p;
         count-right = c;
@@ -73,10 +86,10 @@ module _ (starts heads weights : List ℕ) (k : ℕ) (order : List ℕ) (a : Are
       marks-zero = cleared (after .marks) (length (a .marks)) (nodesOf starts) (y .0) (r .marks-long)
 
       pieces-zero : after .pieces ≡ replicate (nodesOf starts) 0
-      pieces-zero = cleared (after .pieces) (length (a .pieces)) (nodesOf starts) (y .1) (r .pieces-long)
+      pieces-zero = cleared (after .pieces) l (nodesOf starts) (y .1) (pl ∙ r .pieces-long)
 
       sizes-zero : after .sizes ≡ replicate (nodesOf starts) 0
-      sizes-zero = cleared (after .sizes) (length (a .sizes)) (nodesOf starts) (y .2) (r .sizes-long)
+      sizes-zero = cleared (after .sizes) q (nodesOf starts) (y .2) (ql ∙ r .sizes-long)
 
       same : after ≡ answered (nodesOf starts) (length heads) (after .cover)
       same =

@@ -1,7 +1,8 @@
--- The pruning rule, what a cover promises, the path search and the call.
+-- The pruning rule, what a cover promises, the path search, the pieces' sizes and the call.
 pub mod Rule
 pub mod Promise
 pub mod Trails
 pub mod Search
+pub mod Pieces
 pub mod Steps
 pub mod Calls

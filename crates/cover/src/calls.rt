@@ -112,6 +112,8 @@ fn build(
     ensures { λ r. ⌜ Built (now (starts .entry)) (now (heads .entry)) (now (weights .entry)) (k .0) (now (order .entry)) (record { cover = now (cover .exit); starts = now («starts_back» .exit); heads = now («heads_back» .exit); weights = now («weights_back» .exit); marks = now (marks .exit); pieces = now (pieces .exit); sizes = now (sizes .exit) }) (r .0) ⌝ }
 {
     fill_bytes(cover, 1);
+    // A size left over would be sound but useless: it would hide rejections.
+    clear(sizes);
     turn(
         starts,
         heads,
@@ -130,6 +132,8 @@ fn build(
         k,
         order,
         cover,
+        pieces,
+        sizes,
     );
     clear_work(starts_back, heads_back, weights_back, marks, pieces, sizes);
     count_ones(cover)

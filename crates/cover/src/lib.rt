@@ -1,5 +1,6 @@
 // The cover: the path search, pruning, and the call that picks the points.
 mod calls;
+mod pieces;
 mod pruning;
 mod search;
 mod under_trial;

@@ -1,15 +1,20 @@
 // Pruning: the nodes are taken in the order lent, and each is dropped exactly if it is not needed.
+// Where the sizes of its neighbours' pieces tell that it is not, nothing is searched.
 // The weights are lent so that the contracts can name the graph; no answer depends on them.
 use crate::Trail;
+use crate::pieces::size_for;
+use crate::pieces::spread;
 use crate::search::inward;
 use crate::search::longest;
 use road::NodeCount;
 use road::wide;
+ghost use mathlib.Core.Path.{_≡_};
 ghost use Prim.Native.Nat.{_≤_, _<_};
-ghost use lib.ListN.{length};
+ghost use lib.ListN.{length, set};
 ghost use Rattle.paths.specs.Lists.{Each};
 ghost use Rattle.road.specs.Refusals.{Tells};
 ghost use Rattle.road.specs.Roads.{road};
+ghost use Rattle.cover.specs.Pieces.{Fits, Kept};
 ghost use Rattle.cover.specs.Rule.{Needed, PathOf, Prunes};
 ghost use Rattle.cover.specs.Steps.{OfK, Prunable, Took};
 
@@ -50,6 +55,83 @@ fn is_needed(
     )
 }
 
+// Whether v cannot be dropped, where its size would be r: a size below k tells it without a search.
+fn stays(
+    starts: &[u32],
+    heads: &[u32],
+    weights: &[u32],
+    starts_back: &[u32],
+    heads_back: &[u32],
+    weights_back: &[u32],
+    k: NodeCount,
+    cover: &[u8],
+    sizes: &[u32],
+    v: u32,
+    r: NodeCount,
+) -> bool
+    requires { ⌜ Prunable (now starts) (now heads) (now weights) (now «starts_back») (now «heads_back») (now «weights_back») (now cover) ⌝ }
+    requires { ⌜ OfK (k .0) ⌝ }
+    requires { ⌜ Fits (road (now starts) (now heads) (now weights)) (k .0) (now cover) (now sizes) v (r .0) ⌝ }
+    requires { ⌜ v < length (now cover) ⌝ }
+    ensures { λ b. ⌜ Tells b (Needed (PathOf (road (now (starts .entry)) (now (heads .entry)) (now (weights .entry))) (k .0)) (now (cover .entry)) v) ⌝ }
+{
+    if r.0 < k.0 {
+        return false;
+    }
+    is_needed(
+        starts,
+        heads,
+        weights,
+        starts_back,
+        heads_back,
+        weights_back,
+        k,
+        cover,
+        v,
+    )
+}
+
+// Drops v, whose size is then r, and makes the sizes even again.
+fn drop_node(
+    starts: &[u32],
+    heads: &[u32],
+    weights: &[u32],
+    starts_back: &[u32],
+    heads_back: &[u32],
+    weights_back: &[u32],
+    k: NodeCount,
+    cover: &mut [u8],
+    pieces: &mut [u32],
+    sizes: &mut [u32],
+    v: u32,
+    r: NodeCount,
+)
+    requires { ⌜ Prunable (now starts) (now heads) (now weights) (now «starts_back») (now «heads_back») (now «weights_back») (now cover) ⌝ }
+    requires { ⌜ OfK (k .0) ⌝ }
+    requires { ⌜ Kept (road (now starts) (now heads) (now weights)) (k .0) (now cover) (now sizes) (now pieces) ⌝ }
+    requires { ⌜ Fits (road (now starts) (now heads) (now weights)) (k .0) (now cover) (now sizes) v (r .0) ⌝ }
+    requires { ⌜ v < length (now cover) ⌝ }
+    ensures { λ _. ⌜ now (cover .exit) ≡ set (now (cover .entry)) v 0 ⌝ }
+    ensures { λ _. ⌜ Kept (road (now (starts .entry)) (now (heads .entry)) (now (weights .entry))) (k .0) (now (cover .exit)) (now (sizes .exit)) (now (pieces .exit)) ⌝ }
+{
+    let size = r.0 as u32;
+    cover[wide(v)] = 0;
+    sizes[wide(v)] = size;
+    pieces[0] = v;
+    spread(
+        starts,
+        heads,
+        weights,
+        starts_back,
+        heads_back,
+        weights_back,
+        cover,
+        pieces,
+        sizes,
+        size,
+    );
+}
+
 // Takes one node.
 fn take_node(
     starts: &[u32],
@@ -60,14 +142,18 @@ fn take_node(
     weights_back: &[u32],
     k: NodeCount,
     cover: &mut [u8],
+    pieces: &mut [u32],
+    sizes: &mut [u32],
     v: u32,
 )
     requires { ⌜ Prunable (now starts) (now heads) (now weights) (now «starts_back») (now «heads_back») (now «weights_back») (now cover) ⌝ }
     requires { ⌜ OfK (k .0) ⌝ }
+    requires { ⌜ Kept (road (now starts) (now heads) (now weights)) (k .0) (now cover) (now sizes) (now pieces) ⌝ }
     requires { ⌜ v < length (now cover) ⌝ }
     ensures { λ _. ⌜ Took (PathOf (road (now (starts .entry)) (now (heads .entry)) (now (weights .entry))) (k .0)) v (now (cover .entry)) (now (cover .exit)) ⌝ }
+    ensures { λ _. ⌜ Kept (road (now (starts .entry)) (now (heads .entry)) (now (weights .entry))) (k .0) (now (cover .exit)) (now (sizes .exit)) (now (pieces .exit)) ⌝ }
 {
-    if is_needed(
+    let r = size_for(
         starts,
         heads,
         weights,
@@ -76,11 +162,39 @@ fn take_node(
         weights_back,
         k,
         cover,
+        pieces,
+        sizes,
         v,
+    );
+    if stays(
+        starts,
+        heads,
+        weights,
+        starts_back,
+        heads_back,
+        weights_back,
+        k,
+        cover,
+        sizes,
+        v,
+        r,
     ) {
         return;
     }
-    cover[wide(v)] = 0;
+    drop_node(
+        starts,
+        heads,
+        weights,
+        starts_back,
+        heads_back,
+        weights_back,
+        k,
+        cover,
+        pieces,
+        sizes,
+        v,
+        r,
+    );
 }
 
 // Takes the nodes one by one.
@@ -94,9 +208,12 @@ pub fn prune(
     k: NodeCount,
     order: &[u32],
     cover: &mut [u8],
+    pieces: &mut [u32],
+    sizes: &mut [u32],
 )
     requires { ⌜ Prunable (now starts) (now heads) (now weights) (now «starts_back») (now «heads_back») (now «weights_back») (now cover) ⌝ }
     requires { ⌜ OfK (k .0) ⌝ }
+    requires { ⌜ Kept (road (now starts) (now heads) (now weights)) (k .0) (now cover) (now sizes) (now pieces) ⌝ }
     requires { ⌜ Each (λ v. v < length (now cover)) (now order) ⌝ }
     ensures { λ _. ⌜ Prunes (PathOf (road (now (starts .entry)) (now (heads .entry)) (now (weights .entry))) (k .0)) (now (order .entry)) (now (cover .entry)) (now (cover .exit)) ⌝ }
 {
@@ -111,6 +228,8 @@ pub fn prune(
             weights_back,
             k,
             cover,
+            pieces,
+            sizes,
             order[i],
         );
         i += 1;

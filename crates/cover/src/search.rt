@@ -65,7 +65,7 @@ fn outward(
     false
 }
 
-fn larger(a: usize, b: usize) -> usize
+pub fn larger(a: usize, b: usize) -> usize
     ensures { λ r. ⌜ Larger a b r ⌝ }
 {
     if a < b {

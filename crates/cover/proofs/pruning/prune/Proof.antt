@@ -1,22 +1,23 @@
-use Rattle.cover.proofs.Searching.{prunable-still, node-at}
-use Rattle.cover.proofs.Rules.{Going, going-start, going-on, going-end}
-use Rattle.cover.specs.Rule.{PathOf}
-use Rattle.road.specs.Roads.{road}
-use lib.ListN.{length}
+use Prim.Native.Nat.{_-_}
 use native.Mathlib.Omega.{arith}
-use Prim.Native.Nat.{ℕ, suc, _+_, _-_, _≤_, _<_}
+use lib.ListN.{length}
+use Rattle.road.specs.Roads.{road}
+use Rattle.cover.specs.Rule.{PathOf}
+use Rattle.cover.specs.Pieces.{Kept}
+use Rattle.cover.proofs.Rules.{Going, going-start, going-on, going-end}
+use Rattle.cover.proofs.Searching.{prunable-still, node-at}
 use borrow.Author.Needs.{needs}
 use Rattle.cover.proofs.pruning.prune.Statement.{statement}
 use Rattle.cover.proofs.pruning.prune.Tie as tie
 
 abbrev Inv-loop : tie.InvT-loop
-Inv-loop starts heads weights starts-back heads-back weights-back k order cover₀ i₀ cover i = Going (PathOf (road starts heads weights) (k .0)) order cover₀ i cover
+Inv-loop starts heads weights starts-back heads-back weights-back k order cover₀ pieces₀ sizes₀ i₀ cover pieces sizes i = Going (PathOf (road starts heads weights) (k .0)) order cover₀ i cover × Kept (road starts heads weights) (k .0) cover sizes pieces
 
 abbrev μ-loop : tie.MeasureT-loop
-μ-loop starts heads weights starts-back heads-back weights-back k order cover₀ i₀ cover i = length order - i
+μ-loop starts heads weights starts-back heads-back weights-back k order cover₀ pieces₀ sizes₀ i₀ cover pieces sizes i = length order - i
 
 loop-holds : tie.Need-loop-holds Inv-loop μ-loop
-loop-holds c = going-start _ _
+loop-holds c = (going-start _ _, c .before .before .before .before .before .before .before .before .before .before .pre .1 .1 .0)
 
 mul-take-node : tie.Need-mul-take-node Inv-loop μ-loop
 mul-take-node c = search needs
@@ -25,28 +26,28 @@ shared-slice-read-take-node : tie.Need-shared-slice-read-take-node Inv-loop μ-l
 shared-slice-read-take-node c = search needs
 
 take-node-requires : tie.Need-take-node-requires Inv-loop μ-loop
-take-node-requires c κs = (
-  prunable-still _ _ _ _ _ _ _ _ (c .before .before .before .before .before .before .before .before .before .before .before .before .pre .0) (c .before .before .before .loop .inv .long),
-  (
-    c .before .before .before .before .before .before .before .before .before .before .before .before .pre .1 .0,
-    node-at (c .before .before .before .before .before .before .before .before .before .before .before .before .args .order .now) (c .before .before .before .before .before .before .before .before .before .before .before .before .args .cover .now) (c .before .before .before .loop .cover) _ (c .before .before .before .before .before .before .before .before .before .before .before .before .pre .1 .1) (c .before .before .before .loop .inv .long) (c .before .before .loop-test .taken),
-  ),
-)
+take-node-requires c κs = (prunable-still _ _ _ _ _ _ _ _ (c .before .before .before .before .before .before .before .before .before .before .before .before .before .before .before .before .pre .0) (c .before .before .before .before .before .loop .inv .0 .long), (c .before .before .before .before .before .before .before .before .before .before .before .before .before .before .before .before .pre .1 .0, (c .before .before .before .before .before .loop .inv .1, node-at (c .before .before .before .before .before .before .before .before .before .before .before .before .before .before .before .before .args .order .now) (c .before .before .before .before .before .before .before .before .before .before .before .before .before .before .before .before .args .cover .now) (c .before .before .before .before .before .loop .cover) _ (c .before .before .before .before .before .before .before .before .before .before .before .before .before .before .before .before .pre .1 .1 .1) (c .before .before .before .before .before .loop .inv .0 .long) (c .before .before .before .before .loop-test .taken))))
 
 add-i : tie.Need-add-i Inv-loop μ-loop
-add-i c = search needs
+add-i c = omega (arith, c .before .before .before .before .before .before .before .before .before .before .before .loop-test .taken, c .before .before .before .before .before .before .before .before .before .before .before .before .before .before .before .before .before .before .before .before .before .before .before .good .1 .1 .1 .1 .1 .1 .1 .0 .1)
 
 loop-less : tie.Need-loop-less Inv-loop μ-loop
 loop-less c = search needs
 
 loop-again : tie.Need-loop-again Inv-loop μ-loop
-loop-again c = going-on _ _ _ _ _ (c .before .before .before .before .before .before .loop .inv) (c .before .before .before .before .before .loop-test .taken) (c .before .before .take-node .ensures)
+loop-again c = (going-on _ _ _ _ _ (c .before .before .before .before .before .before .before .before .before .before .before .before .loop .inv .0) (c .before .before .before .before .before .before .before .before .before .before .before .loop-test .taken) (c .before .before .before .before .before .before .take-node .ensures .0), c .before .before .before .before .before .before .take-node .ensures .1)
 
 same-length : tie.Need-same-length Inv-loop μ-loop
-same-length c = c .before .loop .inv .long
+same-length c = c .before .loop .inv .0 .long
+
+same-length-2 : tie.Need-same-length-2 Inv-loop μ-loop
+same-length-2 c = omega (arith, c .before .loop .inv .1 .pieces-long, c .before .loop .inv .0 .long, c .before .before .before .before .before .before .before .before .before .before .before .before .pre .1 .1 .0 .pieces-long)
+
+same-length-3 : tie.Need-same-length-3 Inv-loop μ-loop
+same-length-3 c = omega (arith, c .before .loop .inv .1 .sizes-long, c .before .loop .inv .0 .long, c .before .before .before .before .before .before .before .before .before .before .before .before .pre .1 .1 .0 .sizes-long)
 
 returns : tie.Need-returns Inv-loop μ-loop
-returns c = going-end _ _ _ _ (c .before .loop .inv) (c .loop-test .left)
+returns c = going-end _ _ _ _ (c .before .loop .inv .0) (c .loop-test .left)
 
 pub prune-spec : {M : Type 1} → statement M
 prune-spec =
@@ -62,4 +63,6 @@ prune-spec =
     loop-less
     loop-again
     same-length
+    same-length-2
+    same-length-3
     returns)

@@ -1,39 +1,54 @@
 use Rattle.cover.specs.Steps.{kept, dropped}
 use mathlib.Core.Path.{refl}
-use native.Mathlib.Omega.{arith}
 use borrow.Author.Needs.{needs}
 use Rattle.cover.proofs.pruning.take_node.Statement.{statement}
 use Rattle.cover.proofs.pruning.take_node.Tie as tie
 
-is-needed-requires : tie.Need-is-needed-requires
-is-needed-requires c κs = search needs
+size-for-requires : tie.Need-size-for-requires
+size-for-requires c κs = search needs
+
+stays-requires : tie.Need-stays-requires
+stays-requires c κs = (c .before .before .before .before .before .before .before .before .before .before .before .before .before .before .before .pre .0, (c .before .before .before .before .before .before .before .before .before .before .before .before .before .before .before .pre .1 .0, (c .before .before .size-for .ensures, c .before .before .before .before .before .before .before .before .before .before .before .before .before .before .before .pre .1 .1 .1)))
 
 same-length : tie.Need-same-length
 same-length c = search needs
 
-returns : tie.Need-returns
-returns c = kept (c .before .is-needed .ensures .yes (c .if1 .taken)) refl
-
-wide-requires : tie.Need-wide-requires
-wide-requires c κs = search needs
-
-slice-write-cover : tie.Need-slice-write-cover
-slice-write-cover c = search needs
-
 same-length-2 : tie.Need-same-length-2
 same-length-2 c = search needs
 
+same-length-3 : tie.Need-same-length-3
+same-length-3 c = search needs
+
+returns : tie.Need-returns
+returns c = (kept (c .before .stays .ensures .yes (c .if1 .taken)) refl, c .before .before .before .before .before .before .before .before .before .before .before .before .before .before .before .before .before .pre .1 .1 .0)
+
+drop-node-requires : tie.Need-drop-node-requires
+drop-node-requires c κs = (c .before .before .before .before .before .before .before .before .before .before .before .before .before .before .before .before .before .before .before .before .pre .0, (c .before .before .before .before .before .before .before .before .before .before .before .before .before .before .before .before .before .before .before .before .pre .1 .0, (c .before .before .before .before .before .before .before .before .before .before .before .before .before .before .before .before .before .before .before .before .pre .1 .1 .0, (c .before .before .before .before .before .before .before .size-for .ensures, c .before .before .before .before .before .before .before .before .before .before .before .before .before .before .before .before .before .before .before .before .pre .1 .1 .1))))
+
+same-length-4 : tie.Need-same-length-4
+same-length-4 c = search needs
+
+same-length-5 : tie.Need-same-length-5
+same-length-5 c = search needs
+
+same-length-6 : tie.Need-same-length-6
+same-length-6 c = search needs
+
 returns-2 : tie.Need-returns-2
-returns-2 c = rw (c .wide .ensures) (dropped (c .before .before .is-needed .ensures .no (c .before .if1 .left)) refl)
+returns-2 c = (dropped (c .before .before .before .before .before .before .before .before .before .before .before .stays .ensures .no (c .before .before .before .before .before .before .before .before .before .before .if1 .left)) (c .before .before .before .before .before .before .drop-node .ensures .0), c .before .before .before .before .before .before .drop-node .ensures .1)
 
 pub take-node-spec : {M : Type 1} → statement M
 take-node-spec =
     tie.close
     (tie.spec
-    is-needed-requires
+    size-for-requires
+    stays-requires
     same-length
-    returns
-    wide-requires
-    slice-write-cover
     same-length-2
+    same-length-3
+    returns
+    drop-node-requires
+    same-length-4
+    same-length-5
+    same-length-6
     returns-2)

@@ -1,0 +1,78 @@
+use lib.ListN.{getD}
+use Prim.Native.Nat.{ℕ}
+use mathlib.Core.Path.{ap}
+use Rattle.cover.proofs.Spreading.{push-room, raises-one, raised-one}
+use Rattle.cover.specs.Pieces.{none}
+use native.Mathlib.Omega.{arith}
+use borrow.Author.Needs.{needs}
+use Rattle.cover.proofs.pieces.raise.Statement.{statement}
+use Rattle.cover.proofs.pieces.raise.Tie as tie
+
+wide-requires : tie.Need-wide-requires
+wide-requires c κs = search needs
+
+shared-slice-read-if1 : tie.Need-shared-slice-read-if1
+shared-slice-read-if1 c = search needs
+
+returns : tie.Need-returns
+returns c = (none, record { raised = λ d. absurd (c .if1 .taken (rw (c .before .before .wide .ensures) d)) })
+
+wide-requires-2 : tie.Need-wide-requires-2
+wide-requires-2 c κs = search needs
+
+mul-if2 : tie.Need-mul-if2
+mul-if2 c = search needs
+
+slice-read-if2 : tie.Need-slice-read-if2
+slice-read-if2 c = search needs
+
+returns-2 : tie.Need-returns-2
+returns-2 c = (none, record { raised = λ d. rw (c .before .before .wide2 .ensures) at (c .if2 .taken) })
+
+wide-requires-3 : tie.Need-wide-requires-3
+wide-requires-3 c κs = search needs
+
+mul-sizes : tie.Need-mul-sizes
+mul-sizes c = search needs
+
+slice-write-sizes : tie.Need-slice-write-sizes
+slice-write-sizes c = search needs
+
+mul-pieces : tie.Need-mul-pieces
+mul-pieces c = search needs
+
+slice-write-pieces : tie.Need-slice-write-pieces
+slice-write-pieces c = push-room (c .before .before .before .before .before .before .before .before .before .before .args .sizes .now) _ _ (c .wide3 .ensures) (omega (arith, c .before .before .before .before .before .before .before .before .before .before .pre .0, c .before .before .before .before .before .before .before .before .before .before .pre .1 .1)) (omega (arith, c .before .if2 .left, ap (λ (z : ℕ). getD (c .before .before .before .before .before .before .before .before .before .before .args .sizes .now) z 0) (c .before .before .before .wide2 .ensures))) _ _ (c .before .before .before .before .before .before .before .before .before .before .pre .1 .0)
+
+add-result : tie.Need-add-result
+add-result c = search needs
+
+same-length : tie.Need-same-length
+same-length c = search needs
+
+same-length-2 : tie.Need-same-length-2
+same-length-2 c = search needs
+
+returns-3 : tie.Need-returns-3
+returns-3 c = (raises-one (c .before .before .before .before .before .before .before .before .before .before .args .sizes .now) _ _ (c .wide3 .ensures) (omega (arith, c .before .before .before .before .before .before .before .before .before .before .pre .0, c .before .before .before .before .before .before .before .before .before .before .pre .1 .1)) (omega (arith, c .before .if2 .left, ap (λ (z : ℕ). getD (c .before .before .before .before .before .before .before .before .before .before .args .sizes .now) z 0) (c .before .before .before .wide2 .ensures))) _ _, raised-one (c .before .before .before .before .before .before .before .before .before .before .args .sizes .now) _ _ (c .wide3 .ensures) (omega (arith, c .before .before .before .before .before .before .before .before .before .before .pre .0, c .before .before .before .before .before .before .before .before .before .before .pre .1 .1)) (omega (arith, c .before .if2 .left, ap (λ (z : ℕ). getD (c .before .before .before .before .before .before .before .before .before .before .args .sizes .now) z 0) (c .before .before .before .wide2 .ensures))) _)
+
+pub raise-spec : {M : Type 1} → statement M
+raise-spec =
+    tie.close
+    (tie.spec
+    wide-requires
+    shared-slice-read-if1
+    returns
+    wide-requires-2
+    mul-if2
+    slice-read-if2
+    returns-2
+    wide-requires-3
+    mul-sizes
+    slice-write-sizes
+    mul-pieces
+    slice-write-pieces
+    add-result
+    same-length
+    same-length-2
+    returns-3)

@@ -1,0 +1,89 @@
+use mathlib.Core.Path.{_∙_}
+use borrow.Author.Needs.{needs, scaled-fits}
+use Rattle.cover.proofs.Spreading.{raises-long, room-after, raises-then, raises-grown, raised-still}
+use Rattle.cover.proofs.Rows.{RowTo, row-none, row-listed, row-node, row-more, row-end}
+use Rattle.cover.specs.Pieces.{Raises, none, Raised}
+use Prim.Native.Nat.{_-_}
+use Rattle.cover.proofs.pieces.raise_row.Statement.{statement}
+use Rattle.cover.proofs.pieces.raise_row.Tie as tie
+
+abbrev Inv-loop : tie.InvT-loop
+Inv-loop starts heads cover pieces₀ sizes₀ waiting r x end i₀ count₀ pieces sizes i count = (Raises r sizes₀ pieces₀ waiting sizes pieces count) × RowTo starts heads x (Raised cover sizes r) end i
+
+abbrev μ-loop : tie.MeasureT-loop
+μ-loop starts heads cover pieces₀ sizes₀ waiting r x end i₀ count₀ pieces sizes i count = end - i
+
+add-wide : tie.Need-add-wide Inv-loop μ-loop
+add-wide c = search needs
+
+mul-wide : tie.Need-mul-wide Inv-loop μ-loop
+mul-wide c = search needs
+
+shared-slice-read-wide : tie.Need-shared-slice-read-wide Inv-loop μ-loop
+shared-slice-read-wide c = search needs
+
+wide-requires : tie.Need-wide-requires Inv-loop μ-loop
+wide-requires c κs = search needs
+
+mul-wide-2 : tie.Need-mul-wide-2 Inv-loop μ-loop
+mul-wide-2 c = search needs
+
+shared-slice-read-wide-2 : tie.Need-shared-slice-read-wide-2 Inv-loop μ-loop
+shared-slice-read-wide-2 c = search needs
+
+wide-requires-2 : tie.Need-wide-requires-2 Inv-loop μ-loop
+wide-requires-2 c κs = search needs
+
+loop-holds : tie.Need-loop-holds Inv-loop μ-loop
+loop-holds c = (none, row-none _ _ _ _ _ (c .before .before .before .before .before .before .before .before .before .pre .0) (c .before .before .before .before .before .before .before .before .before .pre .1 .1 .1) (c .before .before .wide .ensures) _ _ (c .wide2 .ensures))
+
+mul-raise : tie.Need-mul-raise Inv-loop μ-loop
+mul-raise c = scaled-fits _ _ 4 (row-listed _ _ _ _ _ (c .before .before .before .before .before .before .before .before .before .before .before .before .before .pre .0) (c .before .before .before .before .before .before .before .before .before .before .before .before .before .pre .1 .1 .1) (c .before .before .before .before .before .before .wide .ensures) _ (c .before .before .before .loop .inv .1) (c .before .before .loop-test .taken)) (search needs)
+
+shared-slice-read-raise : tie.Need-shared-slice-read-raise Inv-loop μ-loop
+shared-slice-read-raise c = row-listed _ _ _ _ _ (c .before .before .before .before .before .before .before .before .before .before .before .before .before .before .pre .0) (c .before .before .before .before .before .before .before .before .before .before .before .before .before .before .pre .1 .1 .1) (c .before .before .before .before .before .before .before .wide .ensures) _ (c .before .before .before .before .loop .inv .1) (c .before .before .before .loop-test .taken)
+
+raise-requires : tie.Need-raise-requires Inv-loop μ-loop
+raise-requires c κs = (raises-long (c .before .before .before .before .loop .inv .0) .0 ∙ c .before .before .before .before .before .before .before .before .before .before .before .before .before .before .pre .1 .0, (room-after (c .before .before .before .before .loop .inv .0) (c .before .before .before .before .before .before .before .before .before .before .before .before .before .before .pre .1 .1 .0), row-node _ _ _ _ _ (c .before .before .before .before .before .before .before .before .before .before .before .before .before .before .pre .0) (c .before .before .before .before .before .before .before .before .before .before .before .before .before .before .pre .1 .1 .1) (c .before .before .before .before .before .before .before .wide .ensures) _ (c .before .before .before .before .loop .inv .1) (c .before .before .before .loop-test .taken)))
+
+add-i : tie.Need-add-i Inv-loop μ-loop
+add-i c = search needs
+
+loop-less : tie.Need-loop-less Inv-loop μ-loop
+loop-less c = search needs
+
+loop-again : tie.Need-loop-again Inv-loop μ-loop
+loop-again c = (raises-then (c .before .before .before .before .before .before .before .before .before .loop .inv .0) (c .before .before .before .before .raise .ensures .0), row-more _ _ _ _ _ _ _ (c .before .before .before .before .before .before .before .before .before .loop .inv .1) (c .before .before .before .before .before .before .before .before .loop-test .taken) (raised-still _ (raises-grown (c .before .before .before .before .raise .ensures .0))) (c .before .before .before .before .raise .ensures .1))
+
+same-length : tie.Need-same-length Inv-loop μ-loop
+same-length c = raises-long (c .before .loop .inv .0) .1
+
+same-length-2 : tie.Need-same-length-2 Inv-loop μ-loop
+same-length-2 c = raises-long (c .before .loop .inv .0) .0
+
+returns : tie.Need-returns Inv-loop μ-loop
+returns c = (c .before .loop .inv .0, row-end _ _ _ _ _ (c .before .before .before .before .before .before .before .before .before .before .before .pre .0) (c .before .before .before .before .before .before .before .before .before .before .before .pre .1 .1 .1) (c .before .before .before .before .wide .ensures) _ (c .before .loop .inv .1) (c .loop-test .left))
+
+pub raise-row-spec : {M : Type 1} → statement M
+raise-row-spec =
+    tie.close
+    (tie.spec
+    Inv-loop
+    μ-loop
+    add-wide
+    mul-wide
+    shared-slice-read-wide
+    wide-requires
+    mul-wide-2
+    shared-slice-read-wide-2
+    wide-requires-2
+    loop-holds
+    mul-raise
+    shared-slice-read-raise
+    raise-requires
+    add-i
+    loop-less
+    loop-again
+    same-length
+    same-length-2
+    returns)
