@@ -1,0 +1,23 @@
+// The overlay call on small graphs, at its edges and at the greatest numbers, and check 7, a line for
+// each case.
+//
+// The file stdout is written from the definition of the overlay and the table of refusals, not from
+// what this program prints, so that the two are compared.
+mod checks;
+mod large;
+mod samples;
+mod small;
+mod telling;
+
+fn main() {
+    small::lines();
+    small::others();
+    small::refusals();
+    small::lengths();
+    small::weights();
+    large::paths();
+    large::hubs();
+    checks::small();
+    checks::graphs();
+    checks::large();
+}
