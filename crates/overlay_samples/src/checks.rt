@@ -10,90 +10,91 @@ fn check(label: &[u8], set: &[u8], starts: &[u32], heads: &[u32], weights: &[u32
     io::write_all(1, b"\n");
 }
 
-// The overlay of Line and the set {1, 3}, and what differs from it in one thing.
-pub fn small() {
-    check(
+// The overlay of Line and the set {1, 3} is right; the others differ from it in one thing.
+fn line(label: &[u8], set: [u8; 5], starts: [u32; 6], heads: [u32; 2], weight: u32) {
+    check(label, &set, &starts, &heads, &[16, weight]);
+}
+
+pub fn lines() {
+    line(
         b"7, right:",
-        &[0, 1, 0, 1, 0],
-        &[0, 0, 1, 1, 2, 2],
-        &[3, 1],
-        &[16, 16],
+        [0, 1, 0, 1, 0],
+        [0, 0, 1, 1, 2, 2],
+        [3, 1],
+        16,
     );
-    check(
-        b"7, one start too many:",
-        &[0, 1, 0, 1, 0],
-        &[0, 0, 1, 1, 2, 2, 2],
-        &[3, 1],
-        &[16, 16],
-    );
-    check(
-        b"7, one start too few:",
-        &[0, 1, 0, 1, 0],
-        &[0, 0, 1, 1, 2],
-        &[3, 1],
-        &[16, 16],
-    );
-    check(
+    line(
         b"7, head outside:",
-        &[0, 1, 0, 1, 0],
-        &[0, 0, 1, 1, 2, 2],
-        &[3, 0],
-        &[16, 16],
+        [0, 1, 0, 1, 0],
+        [0, 0, 1, 1, 2, 2],
+        [3, 0],
+        16,
     );
-    check(
+    line(
         b"7, tail outside:",
-        &[0, 1, 0, 1, 0],
-        &[0, 1, 1, 1, 2, 2],
-        &[3, 1],
-        &[16, 16],
+        [0, 1, 0, 1, 0],
+        [0, 1, 1, 1, 2, 2],
+        [3, 1],
+        16,
     );
-    check(
+    line(
         b"7, byte 2:",
-        &[0, 1, 0, 2, 0],
-        &[0, 0, 1, 1, 2, 2],
-        &[3, 1],
-        &[16, 16],
+        [0, 1, 0, 2, 0],
+        [0, 0, 1, 1, 2, 2],
+        [3, 1],
+        16,
     );
-    check(
+    line(
         b"7, weight 4095000000:",
-        &[0, 1, 0, 1, 0],
-        &[0, 0, 1, 1, 2, 2],
-        &[3, 1],
-        &[16, 4095000000],
+        [0, 1, 0, 1, 0],
+        [0, 0, 1, 1, 2, 2],
+        [3, 1],
+        4095000000,
     );
-    check(
+    line(
         b"7, weight 4095000001:",
-        &[0, 1, 0, 1, 0],
-        &[0, 0, 1, 1, 2, 2],
-        &[3, 1],
-        &[16, 4095000001],
+        [0, 1, 0, 1, 0],
+        [0, 0, 1, 1, 2, 2],
+        [3, 1],
+        4095000001,
     );
 }
 
+fn set_of(label: &[u8], set: &[u8]) {
+    check(label, set, &[0, 1, 2, 2], &[1, 0], &[8, 8]);
+}
+
+// Three nodes, so four starts.
+pub fn sizes() {
+    set_of(b"7, as many starts as asked:", &[1, 1, 0]);
+    set_of(b"7, one start too many:", &[1, 1]);
+    set_of(b"7, one start too few:", &[1, 1, 0, 0]);
+}
+
 // Faulty as in 1 to 3.
+fn two(label: &[u8], starts: [u32; 3], head: u32) {
+    check(label, &[1, 1], &starts, &[head], &[1]);
+}
+
+fn three(label: &[u8], heads: [u32; 2]) {
+    check(label, &[1, 1, 1], &[0, 2, 2, 2], &heads, &[1, 1]);
+}
+
+fn none(label: &[u8], set: &[u8], starts: &[u32]) {
+    check(label, set, starts, &[], &[]);
+}
+
 pub fn graphs() {
-    check(b"7, no set:", &[], &[0], &[], &[]);
-    check(b"7, no start:", &[0], &[], &[], &[]);
-    check(b"7, no arc:", &[0], &[0, 0], &[], &[]);
+    none(b"7, no set:", &[], &[0]);
+    none(b"7, no start:", &[0], &[]);
+    none(b"7, no arc:", &[0], &[0, 0]);
     check(b"7, a weight missing:", &[1, 1], &[0, 1, 1], &[1], &[]);
-    check(b"7, first start not 0:", &[1, 1], &[1, 1, 1], &[1], &[1]);
-    check(b"7, last start too small:", &[1, 1], &[0, 0, 0], &[1], &[1]);
-    check(b"7, loop:", &[1, 1], &[0, 1, 1], &[0], &[1]);
-    check(b"7, head 2:", &[1, 1], &[0, 1, 1], &[2], &[1]);
-    check(
-        b"7, heads not ascending:",
-        &[1, 1, 1],
-        &[0, 2, 2, 2],
-        &[2, 1],
-        &[1, 1],
-    );
-    check(
-        b"7, heads ascending:",
-        &[1, 1, 1],
-        &[0, 2, 2, 2],
-        &[1, 2],
-        &[1, 1],
-    );
+    two(b"7, first start not 0:", [1, 1, 1], 1);
+    two(b"7, last start too small:", [0, 0, 0], 1);
+    two(b"7, loop:", [0, 1, 1], 0);
+    two(b"7, head 2:", [0, 1, 1], 2);
+    three(b"7, heads not ascending:", [2, 1]);
+    three(b"7, heads ascending:", [1, 2]);
 }
 
 // 513 nodes: each of the first 256 has an arc to each of the last 256, and where there is one arc

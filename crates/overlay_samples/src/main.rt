@@ -15,9 +15,11 @@ fn main() {
     small::refusals();
     small::lengths();
     small::weights();
+    small::sets();
     large::paths();
     large::hubs();
-    checks::small();
+    checks::lines();
+    checks::sizes();
     checks::graphs();
     checks::large();
 }

@@ -66,35 +66,37 @@ pub fn others() {
     sample(b"one node in the set:", &[0, 0], &[], &[], &[1], 1, 0);
 }
 
+// Two nodes, and an arc from node 0 to this head.
+fn pair(
+    label: &[u8],
+    starts: [u32; 3],
+    head: u32,
+    weight: u32,
+    set: [u8; 2],
+    arcs: usize,
+    wrong: u8,
+) {
+    sample(label, &starts, &[head], &[weight], &set, arcs, wrong);
+}
+
 // The first refusal that applies: each line has the faults of the lines below it too.
 pub fn refusals() {
     sample(b"one start:", &[1], &[5], &[1000001], &[2], 0, 1);
-    sample(b"start not 0:", &[1, 1, 1], &[0], &[1000001], &[2], 0, 1);
-    sample(b"arc to itself:", &[0, 1, 1], &[0], &[1000001], &[2], 0, 1);
-    sample(b"set of 1:", &[0, 1, 1], &[1], &[1], &[2], 0, 1);
-    sample(b"byte 2:", &[0, 1, 1], &[1], &[1], &[1, 2], 0, 1);
-    sample(b"starts too long:", &[0, 1, 1], &[1], &[1], &[1, 1], 0, 1);
-    sample(b"no room:", &[0, 1, 1], &[1], &[1], &[1, 1], 0, 0);
-    sample(b"room:", &[0, 1, 1], &[1], &[1], &[1, 1], 1, 0);
+    pair(b"start not 0:", [1, 1, 1], 0, 1000001, [1, 2], 0, 1);
+    pair(b"arc to itself:", [0, 1, 1], 0, 1000001, [1, 2], 0, 1);
+    pair(b"byte 2:", [0, 1, 1], 1, 1, [1, 2], 0, 1);
+    pair(b"starts too long:", [0, 1, 1], 1, 1, [1, 1], 0, 1);
+    pair(b"no room:", [0, 1, 1], 1, 1, [1, 1], 0, 0);
+    pair(b"room:", [0, 1, 1], 1, 1, [1, 1], 1, 0);
 }
 
 pub fn weights() {
-    sample(
-        b"weight 1000000:",
-        &[0, 1, 1],
-        &[1],
-        &[1000000],
-        &[1, 1],
-        1,
-        0,
-    );
-    sample(
-        b"weight 1000001:",
-        &[0, 1, 1],
-        &[1],
-        &[1000001],
-        &[1, 1],
-        1,
-        0,
-    );
+    pair(b"weight 1000000:", [0, 1, 1], 1, 1000000, [1, 1], 1, 0);
+    pair(b"weight 1000001:", [0, 1, 1], 1, 1000001, [1, 1], 1, 0);
+}
+
+// One node, and a set that is too short or too long for it.
+pub fn sets() {
+    sample(b"no byte:", &[0, 0], &[], &[], &[], 0, 1);
+    sample(b"one byte too many:", &[0, 0], &[], &[], &[1, 1], 0, 1);
 }
