@@ -183,6 +183,37 @@ module _ where
       by : Reaches chain (Outside (1 ∷ 1 ∷ 1 ∷ [])) 0 2 w → ⊥
       by q = not-through (q .path .along) (q .inner) refl refl
 
+-- And of the Wedge with all nodes in the set the arc from 0 to 1 weighs 10, not the 7 of the way over 2.
+module _ where
+  abbrev wedge : Graph
+  wedge = road (0 ∷ 2 ∷ 2 ∷ 3 ∷ []) (1 ∷ 2 ∷ 1 ∷ []) (10 ∷ 3 ∷ 4 ∷ [])
+
+  first-places : (p : ℕ) {a : ℕ} → p < getD {A = ℕ} (0 ∷ 2 ∷ 2 ∷ 3 ∷ []) (a + 1) 0 → a ≡ 0 → p < 2
+  first-places p {a} h e = omega (arith, h, ap (λ (k : ℕ). getD {A = ℕ} (0 ∷ 2 ∷ 2 ∷ 3 ∷ []) (k + 1) 0) e)
+
+  direct : {a b w : ℕ} {l : List ℕ} → Along wedge a l b w → Inside (Outside (1 ∷ 1 ∷ 1 ∷ [])) l → a ≡ 0 → b ≡ 1 → w ≡ 10
+  direct stop i e f = absurd (omega arith)
+  direct (step {x = x} {w = w} s stop) i e f = omega (arith, weight (s .place) (first-places (s .place) (s .owned .below) e) x (s .head) f w (s .weight))
+    where
+      weight : (p : ℕ) → p < 2 → (x : ℕ) → getD {A = ℕ} (1 ∷ 2 ∷ 1 ∷ []) p 0 ≡ x → x ≡ 1 → (w : ℕ) → getD {A = ℕ} (10 ∷ 3 ∷ 4 ∷ []) p 0 ≡ w → w ≡ 10
+      weight zero h x q f w r = sym r
+      weight (suc zero) h x q f w r = absurd (omega arith)
+      weight (suc (suc p)) h x q f w r = absurd (omega arith)
+  direct (step {x = x} s (step t r)) i e f = absurd (inside (s .place) (first-places (s .place) (s .owned .below) e) x (s .head) (i .0))
+    where
+      inside : (p : ℕ) → p < 2 → (x : ℕ) → getD {A = ℕ} (1 ∷ 2 ∷ 1 ∷ []) p 0 ≡ x → Outside (1 ∷ 1 ∷ 1 ∷ []) x → ⊥
+      inside zero h x q n = n (ap (λ (k : ℕ). getD {A = ℕ} (1 ∷ 1 ∷ 1 ∷ []) k 0) (sym q))
+      inside (suc zero) h x q n = n (ap (λ (k : ℕ). getD {A = ℕ} (1 ∷ 1 ∷ 1 ∷ []) k 0) (sym q))
+      inside (suc (suc p)) h x q n = omega arith
+
+  pub direct-weight :
+      {before : Areas} {said : Said} {after : Areas} (a : Answer (0 ∷ 2 ∷ 2 ∷ 3 ∷ []) (1 ∷ 2 ∷ 1 ∷ []) (10 ∷ 3 ∷ 4 ∷ []) (1 ∷ 1 ∷ 1 ∷ []) before said after) (w : ℕ) →
+      Arc (after .starts) (take (a .count) (after .heads)) (take (a .count) (after .weights)) 0 1 w → w ≡ 10
+  direct-weight a w r = by (no-other a 0 1 w r .least .is)
+    where
+      by : Reaches wedge (Outside (1 ∷ 1 ∷ 1 ∷ [])) 0 1 w → w ≡ 10
+      by q = direct (q .path .along) (q .inner) refl refl
+
 -- A loop on a set node: P9, the Ring with the set {2}, has no arc.
 module _ where
   no-numbers : {P : ℕ → Type 0} {n m : ℕ} → ((v : ℕ) → P v → ⊥) → Number P n m → m ≡ 0

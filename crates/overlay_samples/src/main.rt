@@ -10,12 +10,14 @@ mod small;
 mod telling;
 
 fn main() {
-    small::lines();
+    small::rooms();
+    small::sets();
     small::others();
     small::refusals();
-    small::lengths();
+    small::too_long();
+    small::too_short();
     small::weights();
-    small::sets();
+    small::bytes();
     large::paths();
     large::hubs();
     checks::lines();

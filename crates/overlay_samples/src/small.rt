@@ -14,11 +14,14 @@ fn line(label: &[u8], set: [u8; 5], arcs: usize, wrong: u8) {
     );
 }
 
-pub fn lines() {
+pub fn rooms() {
     line(b"Line, set 1 3, just room:", [0, 1, 0, 1, 0], 2, 0);
     line(b"Line, set 1 3, one arc more:", [0, 1, 0, 1, 0], 1, 0);
     line(b"Line, set 1 3, no room:", [0, 1, 0, 1, 0], 0, 0);
     line(b"Line, set 1 3, more room:", [0, 1, 0, 1, 0], 4, 0);
+}
+
+pub fn sets() {
     line(b"Line, empty set:", [0, 0, 0, 0, 0], 2, 0);
     line(b"Line, empty set, no room:", [0, 0, 0, 0, 0], 0, 0);
     line(b"Line, set 2, no room:", [0, 0, 1, 0, 0], 0, 0);
@@ -30,21 +33,28 @@ pub fn lines() {
 
 // Each slice of the result and the work in turn is too long, then too short; there is no room for
 // the arcs either, which is judged later.
-pub fn lengths() {
-    line(b"starts too long:", [0, 1, 0, 1, 0], 1, 1);
-    line(b"heads too long:", [0, 1, 0, 1, 0], 1, 2);
-    line(b"weights too long:", [0, 1, 0, 1, 0], 1, 3);
-    line(b"labels too long:", [0, 1, 0, 1, 0], 1, 4);
-    line(b"heap too long:", [0, 1, 0, 1, 0], 1, 5);
-    line(b"places too long:", [0, 1, 0, 1, 0], 1, 6);
-    line(b"touched too long:", [0, 1, 0, 1, 0], 1, 7);
-    line(b"starts too short:", [0, 1, 0, 1, 0], 1, 11);
-    line(b"heads too short:", [0, 1, 0, 1, 0], 1, 12);
-    line(b"weights too short:", [0, 1, 0, 1, 0], 1, 13);
-    line(b"labels too short:", [0, 1, 0, 1, 0], 1, 14);
-    line(b"heap too short:", [0, 1, 0, 1, 0], 1, 15);
-    line(b"places too short:", [0, 1, 0, 1, 0], 1, 16);
-    line(b"touched too short:", [0, 1, 0, 1, 0], 1, 17);
+fn length(label: &[u8], wrong: u8) {
+    line(label, [0, 1, 0, 1, 0], 1, wrong);
+}
+
+pub fn too_long() {
+    length(b"starts too long:", 1);
+    length(b"heads too long:", 2);
+    length(b"weights too long:", 3);
+    length(b"labels too long:", 4);
+    length(b"heap too long:", 5);
+    length(b"places too long:", 6);
+    length(b"touched too long:", 7);
+}
+
+pub fn too_short() {
+    length(b"starts too short:", 11);
+    length(b"heads too short:", 12);
+    length(b"weights too short:", 13);
+    length(b"labels too short:", 14);
+    length(b"heap too short:", 15);
+    length(b"places too short:", 16);
+    length(b"touched too short:", 17);
 }
 
 fn ring(label: &[u8], set: [u8; 3], weights: [u32; 3]) {
@@ -96,7 +106,7 @@ pub fn weights() {
 }
 
 // One node, and a set that is too short or too long for it.
-pub fn sets() {
+pub fn bytes() {
     sample(b"no byte:", &[0, 0], &[], &[], &[], 0, 1);
     sample(b"one byte too many:", &[0, 0], &[], &[], &[1, 1], 0, 1);
 }

@@ -1,7 +1,6 @@
 use Rattle.overlay.proofs.Numbers.{number-all}
-use Prim.Native.Nat.{ℕ, _+_, _-_, _≤_, _<_}
+use Prim.Native.Nat.{_-_, _≤_}
 use native.Mathlib.Omega.{arith}
-use mathlib.Core.Path.{_≡_, sym, subst}
 use mathlib.Core.Logic.{⊎-elim}
 use lib.ListN.{length}
 use Rattle.overlay.proofs.Numbers.{number-few, number-more, number-past}

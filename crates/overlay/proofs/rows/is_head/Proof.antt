@@ -1,5 +1,4 @@
 use native.Mathlib.Omega.{arith}
-use mathlib.Core.Path.{sym}
 use Rattle.road.proofs.Refusals.{tells-yes, tells-no}
 use borrow.Author.Needs.{needs}
 use Rattle.overlay.proofs.rows.is_head.Statement.{statement}

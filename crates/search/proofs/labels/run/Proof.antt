@@ -1,8 +1,7 @@
 use Rattle.search.proofs.States.{Running, running-none, running-on, going-at}
 use Rattle.search.specs.States.{mass}
 use native.Mathlib.Omega.{arith}
-use Prim.Native.Nat.{ℕ, suc, _+_, _-_, _≤_, _<_}
-use borrow.Author.Needs.{needs}
+use Prim.Native.Nat.{_+_}
 use Rattle.search.proofs.labels.run.Statement.{statement}
 use Rattle.search.proofs.labels.run.Tie as tie
 
@@ -18,25 +17,25 @@ loop-holds : tie.Need-loop-holds Inv-loop μ-loop
 loop-holds c = running-none _ _ _ _ _ _ _ _ _ (c .before .before .before .before .before .before .before .pre .0)
 
 take-one-requires : tie.Need-take-one-requires Inv-loop μ-loop
-take-one-requires c κs = search needs
+take-one-requires c κs = (c .before .before .before .before .loop .inv .going, (c .before .before .before .before .before .before .before .before .before .before .before .before .pre .1, omega (arith, c .before .before .before .loop-test .taken)))
 
 add-taken : tie.Need-add-taken Inv-loop μ-loop
-add-taken c = search needs
+add-taken c = omega (arith, c .before .before .before .before .before .before .before .before .before .before .before .loop .inv .spent, c .before .before .before .before .before .before .take-one .ensures .1)
 
 loop-less : tie.Need-loop-less Inv-loop μ-loop
-loop-less c = search needs
+loop-less c = c .before .before .before .before .before .before .take-one .ensures .1
 
 loop-again : tie.Need-loop-again Inv-loop μ-loop
 loop-again c = running-on _ _ _ _ _ _ _ _ _ _ _ _ _ (c .before .before .before .before .before .before .before .before .before .before .before .loop .inv) _ _ _ _ (c .before .before .before .before .before .before .take-one .ensures .0) (c .before .before .before .before .before .before .take-one .ensures .1) (c .before .before .before .before .before .before .take-one .kept .1 .1 .1 .1 .1 .1 .1 .0) (c .before .before .before .before .before .before .take-one .kept .1 .1 .1 .1 .1 .0) (c .before .before .before .before .before .before .take-one .kept .1 .1 .1 .1 .1 .1 .0)
 
 same-length : tie.Need-same-length Inv-loop μ-loop
-same-length c = search needs
+same-length c = c .before .loop .inv .heap-long
 
 same-length-2 : tie.Need-same-length-2 Inv-loop μ-loop
-same-length-2 c = search needs
+same-length-2 c = c .before .loop .inv .places-long
 
 same-length-3 : tie.Need-same-length-3 Inv-loop μ-loop
-same-length-3 c = search needs
+same-length-3 c = c .before .loop .inv .labels-long
 
 returns : tie.Need-returns Inv-loop μ-loop
 returns c = going-at _ _ _ _ _ _ _ _ _ _ (omega arith) (c .before .loop .inv .going)

@@ -1,8 +1,4 @@
-use native.Mathlib.Omega.{arith}
-use mathlib.Core.Logic.{⊎-elim}
-use mathlib.Core.Path.{_≡_}
 use Prim.Native.Nat.{_-_, _≤_}
-use lib.ListN.{length}
 use borrow.Author.Needs.{needs}
 use Rattle.search_takes.proofs.arcs.halved.Statement.{statement}
 use Rattle.search_takes.proofs.arcs.halved.Tie as tie
