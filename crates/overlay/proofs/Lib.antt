@@ -8,3 +8,4 @@ pub mod Ends
 pub mod Outcomes
 pub mod Unique
 pub mod Demands
+pub mod Forbidden

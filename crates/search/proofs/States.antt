@@ -515,24 +515,51 @@ module _ (starts heads weights blocked : List ℕ) (source : ℕ) (labels heap p
       }
 
 -- The search between takes, with the lengths that stay.
-pub record Running (starts heads weights blocked : List ℕ) (source : ℕ) (labels₀ heap₀ places₀ labels heap places : List ℕ) (count : ℕ) : Type 0 where
+pub record Running (starts heads weights blocked : List ℕ) (source : ℕ) (labels₀ heap₀ places₀ labels heap places : List ℕ) (count takes : ℕ) : Type 0 where
   pub going : Going starts heads weights blocked source labels heap places count All
+  pub spent : takes + (mass labels + count) ≤ 81920000000004096
   pub labels-long : length labels ≡ length labels₀
   pub heap-long : length heap ≡ length heap₀
   pub places-long : length places ≡ length places₀
 
+-- the mass is that of so many nodes without a label, at most
+mass-most : (l : List ℕ) → ((v : ℕ) → getD l v 0 ≤ 20000000000000) → mass l ≤ length l * 20000000000000
+mass-most [] h = omega arith
+mass-most (zero ∷ l) h = omega (arith, mass-most l (λ v. h (suc v)))
+mass-most (suc x ∷ l) h = omega (arith, h 0, mass-most l (λ v. h (suc v)))
+
 module _ (starts heads weights blocked : List ℕ) (source : ℕ) where
   pub running-none :
       (labels heap places : List ℕ) (count : ℕ) → Going starts heads weights blocked source labels heap places count All →
-      Running starts heads weights blocked source labels heap places labels heap places count
-  running-none labels heap places count g = record { going = g; labels-long = refl; heap-long = refl; places-long = refl }
+      Running starts heads weights blocked source labels heap places labels heap places count 0
+  running-none labels heap places count g =
+      record {
+        going = g;
+        spent = omega (arith, most, mul-le-mul-right 20000000000000 nodes, g .heap-is .count, g .heap-is .few);
+        labels-long = refl;
+        heap-long = refl;
+        places-long = refl;
+      }
+    where
+      nodes : length labels ≤ 4096
+      nodes = omega (arith, g .state .long, g .state .sound-graph .sized .most)
+
+      most : mass labels ≤ length labels * 20000000000000
+      most = mass-most labels (λ v. omega (arith, label-small starts heads weights blocked source labels (g .state) v))
 
   pub running-on :
-      (labels₀ heap₀ places₀ labels heap places : List ℕ) (count : ℕ) → Running starts heads weights blocked source labels₀ heap₀ places₀ labels heap places count →
-      (labels′ heap′ places′ : List ℕ) (count′ : ℕ) → Going starts heads weights blocked source labels′ heap′ places′ count′ All → length labels′ ≡ length labels →
-      length heap′ ≡ length heap → length places′ ≡ length places → Running starts heads weights blocked source labels₀ heap₀ places₀ labels′ heap′ places′ count′
-  running-on labels₀ heap₀ places₀ labels heap places count r labels′ heap′ places′ count′ g ll lh lp =
-      record { going = g; labels-long = ll ∙ r .labels-long; heap-long = lh ∙ r .heap-long; places-long = lp ∙ r .places-long }
+      (labels₀ heap₀ places₀ labels heap places : List ℕ) (count takes : ℕ) →
+      Running starts heads weights blocked source labels₀ heap₀ places₀ labels heap places count takes → (labels′ heap′ places′ : List ℕ) (count′ : ℕ) →
+      Going starts heads weights blocked source labels′ heap′ places′ count′ All → mass labels′ + count′ < mass labels + count → length labels′ ≡ length labels →
+      length heap′ ≡ length heap → length places′ ≡ length places → Running starts heads weights blocked source labels₀ heap₀ places₀ labels′ heap′ places′ count′ (takes + 1)
+  running-on labels₀ heap₀ places₀ labels heap places count takes r labels′ heap′ places′ count′ g f ll lh lp =
+      record {
+        going = g;
+        spent = omega (arith, r .spent, f);
+        labels-long = ll ∙ r .labels-long;
+        heap-long = lh ∙ r .heap-long;
+        places-long = lp ∙ r .places-long;
+      }
 
   pub going-at :
       (labels heap places : List ℕ) (count count′ : ℕ) → count ≡ count′ → Going starts heads weights blocked source labels heap places count All →

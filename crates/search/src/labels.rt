@@ -3,6 +3,7 @@ use crate::queue::add;
 use crate::queue::sooner;
 use crate::queue::take;
 use crate::queue::up;
+use road::NodeCount;
 use road::wide;
 ghost use mathlib.Core.Path.{_≡_};
 ghost use Prim.Native.Nat.{_+_, _≤_, _<_};
@@ -128,7 +129,8 @@ fn take_one(
     waiting - 1
 }
 
-// Takes nodes until none waits.
+// Takes nodes until none waits; gives how many it took. Nothing is said of that number: it shows how
+// well the queue orders them.
 fn run(
     starts: &[u32],
     heads: &[u32],
@@ -139,12 +141,13 @@ fn run(
     places: &mut [u32],
     labels: &mut [u64],
     waiting: usize,
-)
+) -> NodeCount
     requires { ⌜ Going (now starts) (now heads) (now weights) (now blocked) source (now labels) (now heap) (now places) waiting All ⌝ }
     requires { ⌜ length (now blocked) ≡ nodesOf (now starts) ⌝ }
     ensures { λ _. ⌜ Going (now (starts .entry)) (now (heads .entry)) (now (weights .entry)) (now (blocked .entry)) source (now (labels .exit)) (now (heap .exit)) (now (places .exit)) 0 All ⌝ }
 {
     let mut count = waiting;
+    let mut taken = 0;
     while 0 < count {
         count = take_one(
             starts,
@@ -157,7 +160,9 @@ fn run(
             labels,
             count,
         );
+        taken += 1;
     }
+    NodeCount(taken)
 }
 
 // Fills labels with zeros.
@@ -173,8 +178,8 @@ pub fn clear_labels(s: &mut [u64])
 
 // For every node the least weight over paths from the source with no blocked node strictly inside,
 // as a label: 0 where there is none, else the weight + 1. The queue's two slices are zeros before
-// and after.
-pub fn search(
+// and after. Gives how many nodes were taken, of which nothing is promised.
+pub fn search_counting(
     starts: &[u32],
     heads: &[u32],
     weights: &[u32],
@@ -183,7 +188,7 @@ pub fn search(
     labels: &mut [u64],
     heap: &mut [u32],
     places: &mut [u32],
-)
+) -> NodeCount
     requires { ⌜ Asks (now starts) (now heads) (now weights) (now blocked) source (now labels) (now heap) (now places) ⌝ }
     ensures { λ _. ⌜ Row (road (now (starts .entry)) (now (heads .entry)) (now (weights .entry))) (now (blocked .entry)) source (now (labels .exit)) ⌝ }
     ensures { λ _. ⌜ (now (heap .exit) ≡ now (heap .entry)) × (now (places .exit) ≡ now (places .entry)) ⌝ }
@@ -201,5 +206,32 @@ pub fn search(
         places,
         labels,
         1,
+    )
+}
+
+// The same, for those who need the labels alone.
+pub fn search(
+    starts: &[u32],
+    heads: &[u32],
+    weights: &[u32],
+    blocked: &[u8],
+    source: usize,
+    labels: &mut [u64],
+    heap: &mut [u32],
+    places: &mut [u32],
+)
+    requires { ⌜ Asks (now starts) (now heads) (now weights) (now blocked) source (now labels) (now heap) (now places) ⌝ }
+    ensures { λ _. ⌜ Row (road (now (starts .entry)) (now (heads .entry)) (now (weights .entry))) (now (blocked .entry)) source (now (labels .exit)) ⌝ }
+    ensures { λ _. ⌜ (now (heap .exit) ≡ now (heap .entry)) × (now (places .exit) ≡ now (places .entry)) ⌝ }
+{
+    search_counting(
+        starts,
+        heads,
+        weights,
+        blocked,
+        source,
+        labels,
+        heap,
+        places,
     );
 }

@@ -4,3 +4,4 @@ mod queue;
 
 pub use labels::clear_labels;
 pub use labels::search;
+pub use labels::search_counting;

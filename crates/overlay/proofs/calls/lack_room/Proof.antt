@@ -4,18 +4,13 @@ use Rattle.road.proofs.Refusals.{tells-yes, tells-no}
 use borrow.Author.Needs.{needs}
 use Rattle.overlay.proofs.calls.lack_room.Statement.{statement}
 use Rattle.overlay.proofs.calls.lack_room.Tie as tie
-use Rattle.overlay.proofs.calls.lack_room.Reads as reads
-use Rattle.overlay.proofs.calls.lack_room.Lts as lts
 
--- src/calls.rt:71:9
 returns : tie.Need-returns
-returns c = tells-yes (inl (c .if1 .taken))
+returns c = tells-yes (inl (omega (arith, c .if1 .taken)))
 
--- src/calls.rt:74:9
 returns-2 : tie.Need-returns-2
-returns-2 c = tells-yes (inr (c .if2 .taken))
+returns-2 c = tells-yes (inr (omega (arith, c .if2 .taken)))
 
--- src/calls.rt:67:1
 returns-3 : tie.Need-returns-3
 returns-3 c = tells-no (⊎-elim (λ x. omega arith) (λ x. omega arith))
 

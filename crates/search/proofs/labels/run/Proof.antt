@@ -1,27 +1,32 @@
 use Rattle.search.proofs.States.{Running, running-none, running-on, going-at}
 use Rattle.search.specs.States.{mass}
 use native.Mathlib.Omega.{arith}
-use Prim.Native.Nat.{ℕ, suc, _+_, _-_, _≤_, _<_}
+use Prim.Native.Nat.{_+_}
 use Rattle.search.proofs.labels.run.Statement.{statement}
 use Rattle.search.proofs.labels.run.Tie as tie
 
 abbrev Inv-loop : tie.InvT-loop
-Inv-loop starts heads weights blocked source heap₀ places₀ labels₀ waiting count₀ heap places labels count = Running starts heads weights blocked source labels₀ heap₀ places₀ labels heap places count
+Inv-loop starts heads weights blocked source heap₀ places₀ labels₀ waiting count₀ taken₀ heap places labels count taken =
+    Running starts heads weights blocked source labels₀ heap₀ places₀ labels heap places count taken
 
 abbrev μ-loop : tie.MeasureT-loop
-μ-loop starts heads weights blocked source heap₀ places₀ labels₀ waiting count₀ heap places labels count = mass labels + count
+μ-loop starts heads weights blocked source heap₀ places₀ labels₀ waiting count₀ taken₀ heap places labels count taken =
+    mass labels + count
 
 loop-holds : tie.Need-loop-holds Inv-loop μ-loop
 loop-holds c = running-none _ _ _ _ _ _ _ _ _ (c .before .before .before .before .before .before .before .pre .0)
 
 take-one-requires : tie.Need-take-one-requires Inv-loop μ-loop
-take-one-requires c κs = (c .before .before .before .before .loop .inv .going, (c .before .before .before .before .before .before .before .before .before .before .before .before .pre .1, c .before .before .before .loop-test .taken))
+take-one-requires c κs = (c .before .before .before .before .loop .inv .going, (c .before .before .before .before .before .before .before .before .before .before .before .before .pre .1, omega (arith, c .before .before .before .loop-test .taken)))
+
+add-taken : tie.Need-add-taken Inv-loop μ-loop
+add-taken c = omega (arith, c .before .before .before .before .before .before .before .before .before .before .before .loop .inv .spent, c .before .before .before .before .before .before .take-one .ensures .1)
 
 loop-less : tie.Need-loop-less Inv-loop μ-loop
 loop-less c = c .before .before .before .before .before .before .take-one .ensures .1
 
 loop-again : tie.Need-loop-again Inv-loop μ-loop
-loop-again c = running-on _ _ _ _ _ _ _ _ _ _ _ _ (c .before .before .before .before .before .before .before .before .before .before .before .loop .inv) _ _ _ _ (c .before .before .before .before .before .before .take-one .ensures .0) (c .before .before .before .before .before .before .take-one .kept .1 .1 .1 .1 .1 .1 .1 .0) (c .before .before .before .before .before .before .take-one .kept .1 .1 .1 .1 .1 .0) (c .before .before .before .before .before .before .take-one .kept .1 .1 .1 .1 .1 .1 .0)
+loop-again c = running-on _ _ _ _ _ _ _ _ _ _ _ _ _ (c .before .before .before .before .before .before .before .before .before .before .before .loop .inv) _ _ _ _ (c .before .before .before .before .before .before .take-one .ensures .0) (c .before .before .before .before .before .before .take-one .ensures .1) (c .before .before .before .before .before .before .take-one .kept .1 .1 .1 .1 .1 .1 .1 .0) (c .before .before .before .before .before .before .take-one .kept .1 .1 .1 .1 .1 .0) (c .before .before .before .before .before .before .take-one .kept .1 .1 .1 .1 .1 .1 .0)
 
 same-length : tie.Need-same-length Inv-loop μ-loop
 same-length c = c .before .loop .inv .heap-long
@@ -43,6 +48,7 @@ run-spec =
     μ-loop
     loop-holds
     take-one-requires
+    add-taken
     loop-less
     loop-again
     same-length

@@ -1,0 +1,57 @@
+use mathlib.Core.Path.{_≡_}
+use Prim.Native.Nat.{_-_}
+use lib.ListN.{length}
+use borrow.Author.Needs.{needs}
+use Rattle.overlay_samples.proofs.large.hub_starts.Statement.{statement}
+use Rattle.overlay_samples.proofs.large.hub_starts.Tie as tie
+
+abbrev Inv-loop : tie.InvT-loop
+Inv-loop more starts₀ v₀ node₀ starts v node =
+    (node ≡ v) × (514 ≡ length starts)
+
+abbrev μ-loop : tie.MeasureT-loop
+μ-loop more starts₀ v₀ node₀ starts v node =
+    514 - v
+
+loop-holds : tie.Need-loop-holds Inv-loop μ-loop
+loop-holds c = search needs
+
+hub-start-requires : tie.Need-hub-start-requires Inv-loop μ-loop
+hub-start-requires c κs = search needs
+
+mul-starts : tie.Need-mul-starts Inv-loop μ-loop
+mul-starts c = search needs
+
+array-write-starts : tie.Need-array-write-starts Inv-loop μ-loop
+array-write-starts c = search needs
+
+add-node : tie.Need-add-node Inv-loop μ-loop
+add-node c = search needs
+
+add-v : tie.Need-add-v Inv-loop μ-loop
+add-v c = search needs
+
+loop-less : tie.Need-loop-less Inv-loop μ-loop
+loop-less c = search needs
+
+loop-again : tie.Need-loop-again Inv-loop μ-loop
+loop-again c = search needs
+
+returns : tie.Need-returns Inv-loop μ-loop
+returns c = search needs
+
+pub hub-starts-spec : {M : Type 1} → statement M
+hub-starts-spec =
+    tie.close
+    (tie.spec
+    Inv-loop
+    μ-loop
+    loop-holds
+    hub-start-requires
+    mul-starts
+    array-write-starts
+    add-node
+    add-v
+    loop-less
+    loop-again
+    returns)

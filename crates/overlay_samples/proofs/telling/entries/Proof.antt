@@ -1,0 +1,56 @@
+use Prim.Native.Nat.{_-_, _≤_}
+use lib.ListN.{length}
+use borrow.Author.Needs.{needs}
+use Rattle.overlay_samples.proofs.telling.entries.Statement.{statement}
+use Rattle.overlay_samples.proofs.telling.entries.Tie as tie
+
+abbrev Inv-loop : tie.InvT-loop
+Inv-loop label s i₀ i =
+    i ≤ length s
+
+abbrev μ-loop : tie.MeasureT-loop
+μ-loop label s i₀ i =
+    length s - i
+
+write-all-requires : tie.Need-write-all-requires Inv-loop μ-loop
+write-all-requires c κs = search needs
+
+loop-holds : tie.Need-loop-holds Inv-loop μ-loop
+loop-holds c = search needs
+
+mul-entry : tie.Need-mul-entry Inv-loop μ-loop
+mul-entry c = search needs
+
+shared-slice-read-entry : tie.Need-shared-slice-read-entry Inv-loop μ-loop
+shared-slice-read-entry c = search needs
+
+entry-requires : tie.Need-entry-requires Inv-loop μ-loop
+entry-requires c κs = search needs
+
+add-i : tie.Need-add-i Inv-loop μ-loop
+add-i c = search needs
+
+loop-less : tie.Need-loop-less Inv-loop μ-loop
+loop-less c = search needs
+
+loop-again : tie.Need-loop-again Inv-loop μ-loop
+loop-again c = search needs
+
+returns : tie.Need-returns Inv-loop μ-loop
+returns c = search needs
+
+pub entries-spec : {M : Type 1} → statement M
+entries-spec =
+    tie.close
+    (tie.spec
+    Inv-loop
+    μ-loop
+    write-all-requires
+    loop-holds
+    mul-entry
+    shared-slice-read-entry
+    entry-requires
+    add-i
+    loop-less
+    loop-again
+    returns)

@@ -1,0 +1,2 @@
+-- The laws of this program.
+pub mod Ready
