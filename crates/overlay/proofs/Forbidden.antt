@@ -237,7 +237,7 @@ module _ where
   no-loop {before} {said} {after} o z = by (answer-of o z)
     where
       alone : (u v : ℕ) → HasArc (road (0 ∷ 1 ∷ 2 ∷ 3 ∷ []) (1 ∷ 2 ∷ 0 ∷ []) (1 ∷ 2 ∷ 4 ∷ [])) (0 ∷ 0 ∷ 1 ∷ []) u v → ⊥
-      alone u v h = h .1 .apart (only-two u (h .1 .tail) ∙ sym (only-two v (h .1 .head)))
+      alone u v h = h .apart (only-two u (h .tail) ∙ sym (only-two v (h .head)))
 
       by : Answer (0 ∷ 1 ∷ 2 ∷ 3 ∷ []) (1 ∷ 2 ∷ 0 ∷ []) (1 ∷ 2 ∷ 4 ∷ []) (0 ∷ 0 ∷ 1 ∷ []) before said after → said ≡ answer (0 ∷ [])
       by a = a .values ∙ ap (λ (c : ℕ). answer (c ∷ [])) (no-arcs alone (a .counted))
