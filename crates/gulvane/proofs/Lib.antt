@@ -1,0 +1,2 @@
+-- The structs say what the enums say.
+pub mod Told
