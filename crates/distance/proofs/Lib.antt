@@ -5,3 +5,4 @@ pub mod Nodes
 pub mod Gates
 pub mod Asked
 pub mod Outcomes
+pub mod Forbidden
