@@ -309,3 +309,47 @@ pub set-node-inside :
     {before after : PairAreas} {d : ℕ} →
     PairOutcome (0 ∷ 1 ∷ 2 ∷ 2 ∷ []) (1 ∷ 2 ∷ []) (1 ∷ 1 ∷ []) last-two (0 ∷ 0 ∷ 0 ∷ 0 ∷ []) [] [] 0 2 before (answer (1 ∷ d ∷ [])) after → ⊥
 set-node-inside {d = d} o = no-pair d (least-of (pair-answered o refl) d refl .is)
+
+-- For s in the set another entry than s is taken: with all three nodes in the set, a road arc from 0 to 1 and, from another graph, an overlay
+-- arc from 1 to 2, there is no way from 0 to 2.
+abbrev all-three : List ℕ
+all-three = 1 ∷ 1 ∷ 1 ∷ []
+
+abbrev One : Graph
+One = road (0 ∷ 1 ∷ 1 ∷ 1 ∷ []) (1 ∷ []) (1 ∷ [])
+
+abbrev Foreign : Graph
+Foreign = road (0 ∷ 0 ∷ 1 ∷ 1 ∷ []) (2 ∷ []) (1 ∷ [])
+
+to-one : (p : ℕ) → p < 1 → (v : ℕ) → getD {A = ℕ} (1 ∷ []) p 0 ≡ v → v ≡ 1
+to-one zero h v e = omega arith
+to-one (suc p) h v e = absurd (omega arith)
+
+not-from-one : {a b d : ℕ} {l : List ℕ} → Along One a l b d → a ≡ 1 → b ≡ 2 → ⊥
+not-from-one stop e f = omega (arith, e, f)
+not-from-one (step s r) e f = omega (arith, s .listed, s .owned .from, ap (λ (u : ℕ). getD {A = ℕ} (0 ∷ 1 ∷ 1 ∷ 1 ∷ []) u 0) e)
+
+not-direct : {a b d : ℕ} {l : List ℕ} → Along One a l b d → a ≡ 0 → b ≡ 2 → ⊥
+not-direct stop e f = omega (arith, e, f)
+not-direct (step {x = x} s r) e f = not-from-one r (to-one (s .place) (s .listed) x (s .head)) f
+
+stays : {a b d : ℕ} {l : List ℕ} → Along Foreign a l b d → a ≡ 0 → b ≡ 0
+stays stop e = e
+stays (step s r) e = absurd (omega (arith, s .owned .below, ap (λ (u : ℕ). getD {A = ℕ} (0 ∷ 0 ∷ 1 ∷ 1 ∷ []) (u + 1) 0) e))
+
+enters-itself : (a x : ℕ) → WayIn One all-three 0 a x → a ≡ 0
+enters-itself a x (WayIn.itself i q z) = q
+enters-itself a x (WayIn.reached n i l) = absurd (n refl)
+
+leaves-itself : (b z : ℕ) → WayOut One all-three b 2 z → b ≡ 2
+leaves-itself b z (WayOut.itself i q e) = q
+leaves-itself b z (WayOut.reached n i l) = absurd (n refl)
+
+no-foreign : (w : ℕ) → AnyPair One Foreign all-three 0 2 w → ⊥
+no-foreign w (AnyPair.direct r) = not-direct (r .path .along) refl refl
+no-foreign w (AnyPair.over a b x y z i r o e) = omega (arith, stays (r .path .along) (enters-itself a x i), leaves-itself b z o)
+
+pub another-entry :
+    {before after : PairAreas} {d : ℕ} →
+    PairOutcome (0 ∷ 1 ∷ 1 ∷ 1 ∷ []) (1 ∷ []) (1 ∷ []) all-three (0 ∷ 0 ∷ 1 ∷ 1 ∷ []) (2 ∷ []) (1 ∷ []) 0 2 before (answer (1 ∷ d ∷ [])) after → ⊥
+another-entry {d = d} o = no-foreign d (least-of (pair-answered o refl) d refl .is)
