@@ -7,3 +7,4 @@ pub mod Asked
 pub mod Outcomes
 pub mod Crossing
 pub mod Demands
+pub mod Forbidden

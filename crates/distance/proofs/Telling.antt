@@ -112,8 +112,8 @@ module _ (l m n : ℕ) where
       by a b c x y z (inr (inl e)) = omega arith
       by a b c x y z (inr (inr e)) = omega arith
 
-  pub sum-all : (a b c : ℕ) → l ≡ suc a → m ≡ suc b → n ≡ suc c → Summed l m n (suc (a + b + c))
-  sum-all a b c x y z = record { all = λ d e f u v w. omega arith; missing = λ h. absurd (by h) }
+  pub sum-all : (a b c : ℕ) → l ≡ suc a → m ≡ suc b → n ≡ suc c → (r : ℕ) → r ≡ suc (a + b + c) → Summed l m n r
+  sum-all a b c x y z r s = record { all = λ d e f u v w. omega arith; missing = λ h. absurd (by h) }
     where
       by : (l ≡ 0) ⊎ ((m ≡ 0) ⊎ (n ≡ 0)) → ⊥
       by (inl e) = omega arith

@@ -1,3 +1,4 @@
+use native.Mathlib.Omega.{arith}
 use Rattle.distance.proofs.Telling.{gate-itself, gate-other, gate-outside, gate-reached}
 use borrow.Author.Needs.{needs}
 use Rattle.distance.proofs.sums.gate.Statement.{statement}
@@ -12,7 +13,7 @@ shared-slice-read-if1 c = search needs
 
 -- src/sums.rt:63:13
 returns : tie.Need-returns
-returns c = gate-itself _ _ _ _ (c .before .if1 .taken) (c .if2 .taken)
+returns c = gate-itself _ _ _ _ (omega (arith, c .before .if1 .taken)) (omega (arith, c .if2 .taken))
 
 -- src/sums.rt:65:9
 returns-2 : tie.Need-returns-2

@@ -55,7 +55,7 @@ add-t8 c = omega (arith, c .before .before .before .before .before .before .befo
 
 -- src/sums.rt:36:1
 returns-4 : tie.Need-returns-4
-returns-4 c = sum-all _ _ _ _ _ _ (ap labelOf (c .before .before .before .before .before .before .before .x .given .1)) (ap labelOf (c .before .before .before .before .y .given .1)) (ap labelOf (c .before .z .given .1))
+returns-4 c = sum-all _ _ _ _ _ _ (ap labelOf (c .before .before .before .before .before .before .before .x .given .1)) (ap labelOf (c .before .before .before .before .y .given .1)) (ap labelOf (c .before .z .given .1)) _ (omega arith)
 
 pub sum-spec : {M : Type 1} → statement M
 sum-spec =
