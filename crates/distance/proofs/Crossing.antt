@@ -15,7 +15,7 @@ use Rattle.road.specs.Faults.{InSet}
 use Rattle.overlay.specs.Overlays.{Outside, OverlayArc, HasArc}
 use Rattle.overlay.proofs.Locals.{reaches-map}
 use Rattle.distance.specs.Questions.{Lone, WayIn, WayOut, AnyPair, direct, over}
-use Rattle.distance.proofs.Gates.{lone-in, lone-out}
+use Rattle.distance.proofs.Gates.{each-inside, end-in, lone-in, lone-out}
 
 in? : (chosen : List ℕ) (v : ℕ) → InSet chosen v ⊎ Outside chosen v
 in? chosen v = by (ℕ-discrete (getD chosen v 0) 1)
@@ -28,11 +28,6 @@ any-inside : (l : List ℕ) → Inside Any l
 any-inside [] = tt
 any-inside (x ∷ []) = tt
 any-inside (x ∷ y ∷ l) = (tt, any-inside (y ∷ l))
-
-each-inside : (P : ℕ → Type 0) (l : List ℕ) → Each P l → Inside P l
-each-inside P [] e = tt
-each-inside P (x ∷ []) e = tt
-each-inside P (x ∷ y ∷ l) e = (e .0, each-inside P (y ∷ l) (e .1))
 
 -- a way cut at the first node of the set behind its beginning
 record FirstSet (G : Graph) (chosen : List ℕ) (a : ℕ) (l : List ℕ) (b w : ℕ) : Type 0 where
@@ -123,11 +118,6 @@ module _ {G : Graph} (chosen : List ℕ) where
           (record { node = x; front = x ∷ []; back = l; before = w + 0; past = d; to = step s stop; from = r; weight = omega arith; rest = e; member = i })
       by (inr o) (inl e) = inl (o, e)
 
-  -- the end of a way that goes anywhere stands in its list
-  end-in : {a b w x : ℕ} {l : List ℕ} → Along G a (x ∷ l) b w → Mem b (x ∷ l)
-  end-in (step s stop) = inl refl
-  end-in (step s (step t r)) = inr (end-in (step t r))
-
 -- an overlay over the road: the same nodes, its steps are overlay arcs, and each pair of the definition has one
 pub record Over (G O : Graph) (chosen : List ℕ) : Type 0 where
   pub nodes : O .nodes ≡ G .nodes
@@ -159,7 +149,7 @@ module _ (G O : Graph) (chosen : List ℕ) (x : Over G O chosen) where
 
   none-behind : {a b w : ℕ} {l : List ℕ} → Along G a l b w → Each (Outside chosen) l → InSet chosen b → (d : ℕ) × Walks O Any a b d × (d ≤ w)
   none-behind stop e j = (0, record { after = []; along = stop; inner = tt }, omega arith)
-  none-behind {b = b} (step {x = y} {l = m} s r) e j = absurd (each-mem (Outside chosen) b (y ∷ m) e (end-in chosen (step s r)) j)
+  none-behind {b = b} (step {x = y} {l = m} s r) e j = absurd (each-mem (Outside chosen) b (y ∷ m) e (end-in (step s r)) j)
 
   over-walk : (k a b w : ℕ) (l : List ℕ) → length l ≤ k → Along G a l b w → InSet chosen a → InSet chosen b → a < G .nodes → (d : ℕ) × Walks O Any a b d × (d ≤ w)
   over-walk zero a b w l h r i j n = at-once h r

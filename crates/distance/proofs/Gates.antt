@@ -9,6 +9,7 @@ use Rattle.paths.specs.Graphs.{Graph, Proper, turned, Along, stop, step, IsPath
 use Rattle.paths.specs.Least.{Least, Empty, Told, Under}
 use Rattle.paths.specs.Lists.{Mem, Different, Each, Inside}
 use Rattle.paths.proofs.Least.{told-carries}
+use Rattle.paths.proofs.Lists.{mem-each}
 use Rattle.paths.proofs.Turned.{turned-reaches, turned-proper}
 use Rattle.road.specs.Faults.{InSet}
 use Rattle.road.specs.Limits.{overlayLimits}
@@ -22,10 +23,16 @@ use Rattle.distance.specs.Labels.{Lesser, Sum, Gate, itself, reached, Th
 use Rattle.distance.specs.Questions.{Lone, WayIn, WayOut, AnyPair, direct, over}
 use Rattle.distance.proofs.Telling.{told-lesser}
 
-each-inside : (chosen l : List ℕ) → ((v : ℕ) → Mem v l → Outside chosen v) → Inside (Outside chosen) l
-each-inside chosen [] f = tt
-each-inside chosen (x ∷ []) f = tt
-each-inside chosen (x ∷ y ∷ l) f = (f x (inl refl), each-inside chosen (y ∷ l) (λ v m. f v (inr m)))
+-- what holds of every node of a list holds of those before its last
+pub each-inside : (P : ℕ → Type 0) (l : List ℕ) → Each P l → Inside P l
+each-inside P [] e = tt
+each-inside P (x ∷ []) e = tt
+each-inside P (x ∷ y ∷ l) e = (e .0, each-inside P (y ∷ l) (e .1))
+
+-- the last node of a way that goes anywhere stands in its list
+pub end-in : {G : Graph} {s t w y : ℕ} {l : List ℕ} → Along G s (y ∷ l) t w → Mem t (y ∷ l)
+end-in (step x stop) = inl refl
+end-in (step x (step y r)) = inr (end-in (step y r))
 
 module _ {G : Graph} (chosen : List ℕ) where
   -- a node behind the first is outside the set, or the last
@@ -33,11 +40,6 @@ module _ {G : Graph} (chosen : List ℕ) where
   behind (step x stop) i (inl e) = inr e
   behind (step x (step y r)) i (inl e) = inl (subst (Outside chosen) (sym e) (i .0))
   behind (step x (step y r)) i (inr m) = behind (step y r) (i .1) m
-
-  -- the last node stands in the list
-  end-in : {s t w y : ℕ} {l : List ℕ} → Along G s (y ∷ l) t w → Mem t (y ∷ l)
-  end-in (step x stop) = inl refl
-  end-in (step x (step y r)) = inr (end-in (step y r))
 
   inside-by : {s t w : ℕ} {l : List ℕ} → Along G s l t w → Different l → ((v : ℕ) → Mem v l → InSet chosen v → v ≡ t) → Inside (Outside chosen) l
   inside-by stop d o = tt
@@ -69,7 +71,7 @@ module _ {G : Graph} (chosen : List ℕ) where
       record {
         after = l .after;
         path = l .path;
-        inner = each-inside chosen (l .after) (λ v m i. l .path .different .0 (subst (λ (k : ℕ). Mem k (l .after)) (l .only v (inr m) i) m));
+        inner = each-inside (Outside chosen) (l .after) (mem-each (Outside chosen) (l .after) (λ v m i. l .path .different .0 (subst (λ (k : ℕ). Mem k (l .after)) (l .only v (inr m) i) m)));
       }
 
   module _ (s : ℕ) (row : List ℕ) (f : Local G chosen s row) (as-long : length chosen ≡ G .nodes) where
