@@ -51,7 +51,7 @@ wrote-byte l i b m j h e f =
       text = f ∙ ap (λ (k : ℕ). set (set l i (digit (b / 16))) k (digit (b % 16))) (omega arith);
     }
 
-hexText-append : (a b : List ℕ) → hexText (a ++ b) ≡ hexText a ++ hexText b
+pub hexText-append : (a b : List ℕ) → hexText (a ++ b) ≡ hexText a ++ hexText b
 hexText-append [] b = refl
 hexText-append (x ∷ a) b = ap (λ (t : List ℕ). digit (x / 16) ∷ digit (x % 16) ∷ t) (hexText-append a b)
 
