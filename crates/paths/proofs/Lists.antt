@@ -88,6 +88,11 @@ pub inside-back : (P : ℕ → Type 0) (l m : List ℕ) → Inside P (l ++ m) �
 inside-back P [] m h = h
 inside-back P (x ∷ l) m h = inside-back P l m (inside-tail P x (l ++ m) h)
 
+pub inside-map : (P Q : ℕ → Type 0) → ((v : ℕ) → P v → Q v) → (l : List ℕ) → Inside P l → Inside Q l
+inside-map P Q f [] i = tt
+inside-map P Q f (x ∷ []) i = tt
+inside-map P Q f (x ∷ y ∷ l) i = (f x (i .0), inside-map P Q f (y ∷ l) (i .1))
+
 pub inside-cons : (P : ℕ → Type 0) (x : ℕ) (l : List ℕ) → P x → Inside P l → Inside P (x ∷ l)
 inside-cons P x [] p h = tt
 inside-cons P x (y ∷ l) p h = (p, h)

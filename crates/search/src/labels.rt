@@ -160,8 +160,8 @@ fn run(
     }
 }
 
-// Fills the labels with zeros.
-fn clear_labels(s: &mut [u64])
+// Fills labels with zeros.
+pub fn clear_labels(s: &mut [u64])
     ensures { λ _. ⌜ now (s .exit) ≡ replicate (length (now (s .entry))) 0 ⌝ }
 {
     let mut i = 0;

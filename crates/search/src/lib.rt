@@ -2,4 +2,5 @@
 mod labels;
 mod queue;
 
+pub use labels::clear_labels;
 pub use labels::search;

@@ -1,0 +1,69 @@
+-- How many numbers have a property: at most one number says it, and it carries over.
+use mathlib.Core.Path.{_≡_, refl, sym, ap, subst, subst₂, _∙_}
+use mathlib.Core.Logic.{_⊎_, inl, inr}
+use Prim.Native.Nat.{ℕ, zero, suc, _+_, _≤_, _<_}
+use native.Mathlib.Decide.{ℕ-discrete}
+use native.Mathlib.Numerals.{add-one}
+use native.Mathlib.Omega.{arith}
+use Rattle.overlay.specs.Numbers.{Number, none, one, skip}
+
+module _ {P : ℕ → Type 0} where
+  pub number-one : {n m r : ℕ} → Number P n m → Number P n r → m ≡ r
+  number-one none none = refl
+  number-one (one p x) (one q y) = ap suc (number-one x y)
+  number-one (one p x) (skip q y) = absurd (q p)
+  number-one (skip p x) (one q y) = absurd (p q)
+  number-one (skip p x) (skip q y) = number-one x y
+
+  pub number-few : {n m : ℕ} → Number P n m → m ≤ n
+  number-few none = omega arith
+  number-few (one p x) = omega (arith, number-few x)
+  number-few (skip p x) = omega (arith, number-few x)
+
+  same-number : {n m n′ r : ℕ} → n ≡ n′ → Number P n m → Number P n′ r → m ≡ r
+  same-number {m = m} e x y = number-one (subst (λ (k : ℕ). Number P k m) e x) y
+
+  rise-by : {n m k r : ℕ} → Dec (n ≡ suc k) → n ≤ suc k → Number P n m → Number P (suc k) r → (r′ : ℕ) → (n ≤ k → m ≤ r′) → r′ ≤ r → m ≤ r
+  rise-by (yes e) h x y r′ f l = omega (arith, same-number e x y)
+  rise-by {n} {m} {k} {r} (no d) h x y r′ f l =
+      let below : n ≤ k = not-last h d in
+      omega (arith, f below)
+    where
+      not-last : n ≤ suc k → (n ≡ suc k → ⊥) → n ≤ k
+      not-last a b = omega arith
+
+  -- more numbers, no fewer of them with P
+  pub number-rise : {n m n′ r : ℕ} → n ≤ n′ → Number P n m → Number P n′ r → m ≤ r
+  number-rise h x none = omega (arith, number-few x)
+  number-rise {n = n} h x (one {n = k} {m = r} p y) = rise-by (ℕ-discrete n (suc k)) h x (one p y) r (λ g. number-rise g x y) (omega arith)
+  number-rise {n = n} h x (skip {n = k} {m = r} p y) = rise-by (ℕ-discrete n (suc k)) h x (skip p y) r (λ g. number-rise g x y) (omega arith)
+
+  -- one number more, as a loop counts
+  pub number-more : (n m r : ℕ) → r ≡ m + 1 → P n → Number P n m → Number P (n + 1) r
+  number-more n m r e p x = subst₂ (λ (k l : ℕ). Number P k l) (sym (add-one n)) (sym (e ∙ add-one m)) (one p x)
+
+  pub number-past : (n m r : ℕ) → r ≡ m → (P n → ⊥) → Number P n m → Number P (n + 1) r
+  number-past n m r e p x = subst₂ (λ (k l : ℕ). Number P k l) (sym (add-one n)) (sym e) (skip p x)
+
+  pub number-all : (v n m : ℕ) → v ≤ n → n ≤ v → Number P v m → Number P n m
+  number-all v n m h g x =
+      let same : v ≡ n = omega arith in
+      subst (λ (k : ℕ). Number P k m) same x
+
+  pub number-none : (n : ℕ) → ((v : ℕ) → v < n → P v → ⊥) → Number P n 0
+  number-none zero f = none
+  number-none (suc n) f = skip (f n (omega arith)) (number-none n (λ v h. f v (omega arith)))
+
+  pub number-of : ((v : ℕ) → P v ⊎ (P v → ⊥)) → (n : ℕ) → (m : ℕ) × Number P n m
+  number-of d zero = (0, none)
+  number-of d (suc n) = by (d n) (number-of d n)
+    where
+      by : P n ⊎ (P n → ⊥) → (m : ℕ) × Number P n m → (m : ℕ) × Number P (suc n) m
+      by (inl p) r = (suc (r .0), one p (r .1))
+      by (inr q) r = (r .0, skip q (r .1))
+
+module _ {P Q : ℕ → Type 0} where
+  pub number-map : {n m : ℕ} → ((v : ℕ) → v < n → P v → Q v) → ((v : ℕ) → v < n → Q v → P v) → Number P n m → Number Q n m
+  number-map f g none = none
+  number-map f g (one {n = n} p x) = one (f n (omega arith) p) (number-map (λ v h. f v (omega arith)) (λ v h. g v (omega arith)) x)
+  number-map f g (skip {n = n} p x) = skip (λ q. p (g n (omega arith) q)) (number-map (λ v h. f v (omega arith)) (λ v h. g v (omega arith)) x)

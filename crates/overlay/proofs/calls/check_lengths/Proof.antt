@@ -1,0 +1,48 @@
+use mathlib.Core.Logic.{inl, inr, ⊎-elim}
+use Rattle.road.proofs.Refusals.{refuses, passes}
+use borrow.Author.Needs.{needs}
+use Rattle.overlay.proofs.calls.check_lengths.Statement.{statement}
+use Rattle.overlay.proofs.calls.check_lengths.Tie as tie
+use Rattle.overlay.proofs.calls.check_lengths.Reads as reads
+use Rattle.overlay.proofs.calls.check_lengths.Lts as lts
+
+-- src/calls.rt:35:29
+add-if1 : tie.Need-add-if1
+add-if1 c = search needs
+
+-- src/calls.rt:36:9
+returns : tie.Need-returns
+returns c = refuses (inl (c .if1 .taken))
+
+-- src/calls.rt:39:9
+returns-2 : tie.Need-returns-2
+returns-2 c = refuses (inr (inl (c .if2 .taken)))
+
+-- src/calls.rt:42:9
+returns-3 : tie.Need-returns-3
+returns-3 c = refuses (inr (inr (inl (c .if3 .taken))))
+
+-- src/calls.rt:44:22
+mul-if4 : tie.Need-mul-if4
+mul-if4 c = search needs
+
+-- src/calls.rt:45:9
+returns-4 : tie.Need-returns-4
+returns-4 c = refuses (inr (inr (inr (inl (c .if4 .taken)))))
+
+-- src/calls.rt:48:9
+returns-5 : tie.Need-returns-5
+returns-5 c = refuses (inr (inr (inr (inr (inl (c .if5 .taken))))))
+
+-- src/calls.rt:51:9
+returns-6 : tie.Need-returns-6
+returns-6 c = refuses (inr (inr (inr (inr (inr (inl (c .if6 .taken)))))))
+
+-- src/calls.rt:22:1
+returns-7 : tie.Need-returns-7
+returns-7 c = passes (⊎-elim (λ d. d (c .before .before .before .before .before .before .before .before .before .if1 .left)) (⊎-elim (λ d. d (c .before .before .before .before .before .before .before .before .if2 .left)) (⊎-elim (λ d. d (c .before .before .before .before .before .before .if3 .left)) (⊎-elim (λ d. d (c .before .before .before .before .if4 .left)) (⊎-elim (λ d. d (c .before .before .if5 .left)) (⊎-elim (λ d. d (c .if6 .left)) (λ z. z)))))))
+
+pub check-lengths-spec : {M : Type 1} → statement M
+check-lengths-spec =
+    tie.close
+    (tie.spec add-if1 returns returns-2 returns-3 mul-if4 returns-4 returns-5 returns-6 returns-7)

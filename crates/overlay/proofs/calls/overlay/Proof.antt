@@ -1,0 +1,139 @@
+use native.Mathlib.Omega.{arith}
+use Rattle.overlay.proofs.Outcomes.{refused-early, few-nodes, refused-late, ready}
+use borrow.Author.Needs.{needs}
+use Rattle.overlay.proofs.calls.overlay.Statement.{statement}
+use Rattle.overlay.proofs.calls.overlay.Tie as tie
+use Rattle.overlay.proofs.calls.overlay.Reads as reads
+use Rattle.overlay.proofs.calls.overlay.Lts as lts
+use Rattle.overlay.proofs.calls.build.Reads as build-reads
+use Rattle.overlay.proofs.calls.check_lengths.Reads as check-lengths-reads
+use Rattle.road.proofs.check_road_and_set.Reads as check-road-and-set-reads
+use Rattle.road.proofs.node_count.Reads as node-count-reads
+
+-- src/calls.rt:136:9
+check-road-and-set-requires : tie.Need-check-road-and-set-requires
+check-road-and-set-requires c κs = search needs
+
+-- src/calls.rt:137:29
+enum-known-input : tie.Need-enum-known-input
+enum-known-input c = search needs
+
+-- src/calls.rt:138:9
+returns : tie.Need-returns
+returns c = refused-early _ _ _ _ _ _ _ (c .before .before .before .check-road-and-set .ensures) (c .before .input .given .1)
+
+enum-told : tie.Need-enum-told
+enum-told c = search needs
+
+-- src/calls.rt:140:9
+node-count-requires : tie.Need-node-count-requires
+node-count-requires c κs = search needs
+
+-- src/calls.rt:141:9
+check-lengths-requires : tie.Need-check-lengths-requires
+check-lengths-requires c κs = omega (arith, c .before .before .before .before .before .before .before .node-count .ensures, few-nodes _ _ _ _ _ (c .before .before .before .before .before .before .before .before .before .before .check-road-and-set .ensures) (c .before .before .before .before .before .before .before .before .enum-told .given .1))
+
+-- src/calls.rt:151:29
+enum-known-lengths : tie.Need-enum-known-lengths
+enum-known-lengths c = search needs
+
+-- src/calls.rt:152:9
+same-length : tie.Need-same-length
+same-length c = search needs
+
+-- src/calls.rt:152:9
+same-length-2 : tie.Need-same-length-2
+same-length-2 c = search needs
+
+-- src/calls.rt:152:9
+same-length-3 : tie.Need-same-length-3
+same-length-3 c = search needs
+
+-- src/calls.rt:152:9
+same-length-4 : tie.Need-same-length-4
+same-length-4 c = search needs
+
+-- src/calls.rt:152:9
+same-length-5 : tie.Need-same-length-5
+same-length-5 c = search needs
+
+-- src/calls.rt:152:9
+same-length-6 : tie.Need-same-length-6
+same-length-6 c = search needs
+
+-- src/calls.rt:152:9
+same-length-7 : tie.Need-same-length-7
+same-length-7 c = search needs
+
+-- src/calls.rt:152:9
+returns-2 : tie.Need-returns-2
+returns-2 c = refused-late _ _ _ _ _ _ (c .before .before .before .before .before .before .before .before .before .before .before .before .before .before .check-road-and-set .ensures) (c .before .before .before .before .before .before .before .before .before .before .before .before .enum-told .given .1) _ (rw (c .before .before .before .before .before .before .before .before .before .before .before .node-count .ensures) at (c .before .before .before .check-lengths .ensures)) _ (c .before .lengths .given .1)
+
+enum-told-2 : tie.Need-enum-told-2
+enum-told-2 c = search needs
+
+-- src/calls.rt:154:5
+build-requires : tie.Need-build-requires
+build-requires c κs = ready _ _ _ _ _ _ (c .before .before .before .before .before .before .before .before .before .before .before .before .before .before .before .before .before .before .before .before .check-road-and-set .ensures) (c .before .before .before .before .before .before .before .before .before .before .before .before .before .before .before .before .before .before .enum-told .given .1) _ (rw (c .before .before .before .before .before .before .before .before .before .before .before .before .before .before .before .before .before .node-count .ensures) at (c .before .before .before .before .before .before .before .before .before .check-lengths .ensures)) (c .before .before .before .before .before .before .before .enum-told2 .given .1)
+
+-- src/calls.rt:121:1
+same-length-8 : tie.Need-same-length-8
+same-length-8 c = search needs
+
+-- src/calls.rt:121:1
+same-length-9 : tie.Need-same-length-9
+same-length-9 c = search needs
+
+-- src/calls.rt:121:1
+same-length-10 : tie.Need-same-length-10
+same-length-10 c = search needs
+
+-- src/calls.rt:121:1
+same-length-11 : tie.Need-same-length-11
+same-length-11 c = search needs
+
+-- src/calls.rt:121:1
+same-length-12 : tie.Need-same-length-12
+same-length-12 c = search needs
+
+-- src/calls.rt:121:1
+same-length-13 : tie.Need-same-length-13
+same-length-13 c = search needs
+
+-- src/calls.rt:121:1
+same-length-14 : tie.Need-same-length-14
+same-length-14 c = search needs
+
+-- src/calls.rt:121:1
+returns-3 : tie.Need-returns-3
+returns-3 c = c .before .before .before .before .before .before .before .before .before .before .before .before .before .before .build .ensures
+
+pub overlay-spec : {M : Type 1} → statement M
+overlay-spec =
+    tie.close
+    (tie.spec
+    check-road-and-set-requires
+    enum-known-input
+    returns
+    enum-told
+    node-count-requires
+    check-lengths-requires
+    enum-known-lengths
+    same-length
+    same-length-2
+    same-length-3
+    same-length-4
+    same-length-5
+    same-length-6
+    same-length-7
+    returns-2
+    enum-told-2
+    build-requires
+    same-length-8
+    same-length-9
+    same-length-10
+    same-length-11
+    same-length-12
+    same-length-13
+    same-length-14
+    returns-3)

@@ -1,0 +1,105 @@
+use Prim.Native.Nat.{ℕ, _+_, _-_, _≤_, _<_}
+use lib.ListN.{length}
+use native.Mathlib.Omega.{arith}
+use Rattle.road.proofs.Refusals.{refuses, passes}
+use Rattle.overlay.proofs.Ends.{rows-none, rows-more, refused-by, graph-faulty, graph-sound, all-in}
+use Rattle.overlay.specs.Lent.{BadOverlay, EndsBelow}
+use borrow.Author.Needs.{needs}
+use Rattle.overlay.proofs.checking.check_overlay.Statement.{statement}
+use Rattle.overlay.proofs.checking.check_overlay.Tie as tie
+use Rattle.overlay.proofs.checking.check_overlay.Reads as reads
+use Rattle.overlay.proofs.checking.check_overlay.Lts as lts
+use Rattle.overlay.proofs.checking.check_row.Reads as check-row-reads
+use Rattle.road.proofs.overlay_limits.Reads as overlay-limits-reads
+use Rattle.road.proofs.check_graph.Reads as check-graph-reads
+
+abbrev Inv-loop : tie.InvT-loop
+Inv-loop set starts heads weights tail₀ tail = EndsBelow set starts heads tail × (tail ≤ length set)
+
+abbrev μ-loop : tie.MeasureT-loop
+μ-loop set starts heads weights tail₀ tail = length set - tail
+
+-- src/checking.rt:40:63
+overlay-limits-requires : tie.Need-overlay-limits-requires Inv-loop μ-loop
+overlay-limits-requires c κs = search needs
+
+-- src/checking.rt:40:27
+check-graph-requires : tie.Need-check-graph-requires Inv-loop μ-loop
+check-graph-requires c κs = search needs
+
+enum-told : tie.Need-enum-told Inv-loop μ-loop
+enum-told c = search needs
+
+-- src/checking.rt:41:33
+enum-told-2 : tie.Need-enum-told-2 Inv-loop μ-loop
+enum-told-2 c = search needs
+
+-- src/checking.rt:41:9
+returns : tie.Need-returns Inv-loop μ-loop
+returns c = refuses (graph-faulty _ _ _ _ _ (rw (c .before .before .before .overlay-limits .ensures) at (c .before .before .check-graph .ensures)) _ (c .enum-told2 .given .1))
+
+-- src/checking.rt:43:8
+sub-if1 : tie.Need-sub-if1 Inv-loop μ-loop
+sub-if1 c = omega (arith, graph-sound _ _ _ _ (rw (c .before .before .before .overlay-limits .ensures) at (c .before .before .check-graph .ensures)) (c .enum-told .given .1) .sized .least)
+
+-- src/checking.rt:44:9
+returns-2 : tie.Need-returns-2 Inv-loop μ-loop
+returns-2 c = refuses (BadOverlay.unlike (λ e. c .if1 .taken (omega (arith, e))))
+
+-- src/checking.rt:47:5
+loop-holds : tie.Need-loop-holds Inv-loop μ-loop
+loop-holds c = (rows-none _ _ _, omega arith)
+
+-- src/checking.rt:48:13
+check-row-requires : tie.Need-check-row-requires Inv-loop μ-loop
+check-row-requires c κs = (graph-sound _ _ _ _ (rw (c .before .before .before .before .before .before .overlay-limits .ensures) at (c .before .before .before .before .before .check-graph .ensures)) (c .before .before .before .enum-told .given .1), (omega (arith, c .before .before .if1 .left, graph-sound _ _ _ _ (rw (c .before .before .before .before .before .before .overlay-limits .ensures) at (c .before .before .before .before .before .check-graph .ensures)) (c .before .before .before .enum-told .given .1) .sized .least), c .loop-test .taken))
+
+enum-told-3 : tie.Need-enum-told-3 Inv-loop μ-loop
+enum-told-3 c = search needs
+
+-- src/checking.rt:50:13
+enum-told-4 : tie.Need-enum-told-4 Inv-loop μ-loop
+enum-told-4 c = search needs
+
+-- src/checking.rt:50:13
+returns-3 : tie.Need-returns-3 Inv-loop μ-loop
+returns-3 c = refused-by _ _ _ _ _ _ (c .before .before .check-row .ensures) _ (c .enum-told4 .given .1)
+
+-- src/checking.rt:52:9
+add-tail : tie.Need-add-tail Inv-loop μ-loop
+add-tail c = search needs
+
+-- src/checking.rt:47:5
+loop-less : tie.Need-loop-less Inv-loop μ-loop
+loop-less c = search needs
+
+-- src/checking.rt:47:5
+loop-again : tie.Need-loop-again Inv-loop μ-loop
+loop-again c = (rows-more _ _ _ _ (c .before .before .before .before .loop .inv .0) (c .before .before .check-row .ensures .passed (c .enum-told3 .given .1)), omega (arith, c .before .before .before .loop-test .taken))
+
+-- src/checking.rt:37:1
+returns-4 : tie.Need-returns-4 Inv-loop μ-loop
+returns-4 c = passes (all-in _ _ _ _ _ (rw (c .before .before .before .before .before .before .overlay-limits .ensures) at (c .before .before .before .before .before .check-graph .ensures)) (c .before .before .before .enum-told .given .1) _ (omega (arith, c .before .before .if1 .left, graph-sound _ _ _ _ (rw (c .before .before .before .before .before .before .overlay-limits .ensures) at (c .before .before .before .before .before .check-graph .ensures)) (c .before .before .before .enum-told .given .1) .sized .least)) (search needs) (c .before .loop .inv .0))
+
+pub check-overlay-spec : {M : Type 1} → statement M
+check-overlay-spec =
+    tie.close
+    (tie.spec
+    Inv-loop
+    μ-loop
+    overlay-limits-requires
+    check-graph-requires
+    enum-told
+    enum-told-2
+    returns
+    sub-if1
+    returns-2
+    loop-holds
+    check-row-requires
+    enum-told-3
+    enum-told-4
+    returns-3
+    add-tail
+    loop-less
+    loop-again
+    returns-4)

@@ -1,0 +1,91 @@
+use Rattle.overlay.proofs.Written.{as-wide, one-less}
+use borrow.Author.Needs.{scaled-fits}
+use Rattle.overlay.specs.Writing.{Found, put, left}
+use mathlib.Core.Path.{_≡_, sym, refl}
+use native.Mathlib.Omega.{arith}
+use borrow.Author.Needs.{needs}
+use Rattle.overlay.proofs.rows.write_arc.Statement.{statement}
+use Rattle.overlay.proofs.rows.write_arc.Tie as tie
+use Rattle.overlay.proofs.rows.write_arc.Reads as reads
+use Rattle.overlay.proofs.rows.write_arc.Lts as lts
+use Rattle.overlay.proofs.rows.is_head.Reads as is-head-reads
+
+-- src/rows.rt:57:8
+is-head-requires : tie.Need-is-head-requires
+is-head-requires c κs = (c .before .before .before .before .pre .node, c .before .before .before .before .pre .labelled)
+
+-- src/rows.rt:59:21
+cast-heads : tie.Need-cast-heads
+cast-heads c = search needs
+
+-- src/rows.rt:59:9
+mul-heads : tie.Need-mul-heads
+mul-heads c = scaled-fits _ _ 4 (c .before .before .before .before .before .before .pre .free (c .before .is-head .ensures .yes (c .if1 .taken))) (search needs)
+
+-- src/rows.rt:59:9
+slice-write-heads : tie.Need-slice-write-heads
+slice-write-heads c = c .before .before .before .before .before .before .pre .free (c .before .is-head .ensures .yes (c .if1 .taken))
+
+-- src/rows.rt:60:24
+mul-weights : tie.Need-mul-weights
+mul-weights c = search needs
+
+-- src/rows.rt:60:24
+shared-slice-read-weights : tie.Need-shared-slice-read-weights
+shared-slice-read-weights c = search needs
+
+-- src/rows.rt:60:24
+sub-weights : tie.Need-sub-weights
+sub-weights c = omega (arith, (c .before .before .is-head .ensures .yes (c .before .if1 .taken)) .label)
+
+-- src/rows.rt:60:23
+cast-weights : tie.Need-cast-weights
+cast-weights c = omega (arith, c .before .before .before .before .before .before .before .pre .fits .fits _ (c .before .before .is-head .ensures .yes (c .before .if1 .taken)))
+
+-- src/rows.rt:60:9
+mul-weights-2 : tie.Need-mul-weights-2
+mul-weights-2 c = scaled-fits _ _ 4 (as-wide _ _ _ (c .before .before .before .before .before .before .before .pre .free (c .before .before .is-head .ensures .yes (c .before .if1 .taken))) (c .before .before .before .before .before .before .before .pre .alike)) (search needs)
+
+-- src/rows.rt:60:9
+slice-write-weights : tie.Need-slice-write-weights
+slice-write-weights c = omega (arith, c .before .before .before .before .before .before .before .pre .free (c .before .before .is-head .ensures .yes (c .before .if1 .taken)), c .before .before .before .before .before .before .before .pre .alike)
+
+-- src/rows.rt:61:25
+add-t11 : tie.Need-add-t11
+add-t11 c = omega (arith, c .before .before .before .before .before .before .before .pre .free (c .before .before .is-head .ensures .yes (c .before .if1 .taken)))
+
+-- src/rows.rt:61:9
+same-length : tie.Need-same-length
+same-length c = search needs
+
+-- src/rows.rt:61:9
+same-length-2 : tie.Need-same-length-2
+same-length-2 c = search needs
+
+-- src/rows.rt:61:9
+returns : tie.Need-returns
+returns c = put _ (c .before .before .is-head .ensures .yes (c .before .if1 .taken)) (one-less _ ((c .before .before .is-head .ensures .yes (c .before .if1 .taken)) .label)) refl refl (omega arith)
+
+-- src/rows.rt:45:1
+returns-2 : tie.Need-returns-2
+returns-2 c = left (c .before .is-head .ensures .no (c .if1 .left)) refl refl refl
+
+pub write-arc-spec : {M : Type 1} → statement M
+write-arc-spec =
+    tie.close
+    (tie.spec
+    is-head-requires
+    cast-heads
+    mul-heads
+    slice-write-heads
+    mul-weights
+    shared-slice-read-weights
+    sub-weights
+    cast-weights
+    mul-weights-2
+    slice-write-weights
+    add-t11
+    same-length
+    same-length-2
+    returns
+    returns-2)
