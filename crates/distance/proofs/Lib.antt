@@ -1,0 +1,7 @@
+-- The laws of distances.
+pub mod Telling
+pub mod Searches
+pub mod Nodes
+pub mod Gates
+pub mod Asked
+pub mod Outcomes

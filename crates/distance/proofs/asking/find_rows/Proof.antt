@@ -1,0 +1,69 @@
+use mathlib.Core.Path.{_≡_, sym, _∙_}
+use Rattle.distance.proofs.Asked.{asks-back, rows-found}
+use borrow.Author.Needs.{needs}
+use Rattle.distance.proofs.asking.find_rows.Statement.{statement}
+use Rattle.distance.proofs.asking.find_rows.Tie as tie
+use Rattle.distance.proofs.asking.find_rows.Reads as reads
+use Rattle.distance.proofs.asking.find_rows.Lts as lts
+use Rattle.road.proofs.turn.Reads as turn-reads
+use Rattle.search.proofs.search.Reads as search-reads
+
+-- src/asking.rt:94:5
+turn-requires : tie.Need-turn-requires
+turn-requires c κs = search needs
+
+-- src/asking.rt:102:5
+search-requires : tie.Need-search-requires
+search-requires c κs = search needs
+
+-- src/asking.rt:103:5
+search-requires-2 : tie.Need-search-requires-2
+search-requires-2 c κs = asks-back _ _ _ _ _ _ _ _ _ _ _ _ _ (c .before .before .before .before .before .before .before .before .before .before .before .before .before .before .before .before .before .before .before .before .before .before .before .before .before .before .before .before .before .before .before .before .before .before .before .before .before .pre) _ _ _ (c .before .before .before .before .before .before .before .before .before .before .before .before .before .before .before .before .before .before .before .before .before .before .turn .ensures) (c .before .before .before .before .before .before .before .before .before .before .before .before .before .before .before .before .before .before .before .before .before .before .turn .kept .1 .1 .1 .0) _ _ (c .before .before .before .before .before .before .before .before .before .before .before .before .search .ensures .1 .0) (c .before .before .before .before .before .before .before .before .before .before .before .before .search .ensures .1 .1)
+
+-- src/asking.rt:75:1
+same-length : tie.Need-same-length
+same-length c = search needs
+
+-- src/asking.rt:75:1
+same-length-2 : tie.Need-same-length-2
+same-length-2 c = search needs
+
+-- src/asking.rt:75:1
+same-length-3 : tie.Need-same-length-3
+same-length-3 c = search needs
+
+-- src/asking.rt:75:1
+same-length-4 : tie.Need-same-length-4
+same-length-4 c = search needs
+
+-- src/asking.rt:75:1
+same-length-5 : tie.Need-same-length-5
+same-length-5 c = search needs
+
+-- src/asking.rt:75:1
+same-length-6 : tie.Need-same-length-6
+same-length-6 c = search needs
+
+-- src/asking.rt:75:1
+same-length-7 : tie.Need-same-length-7
+same-length-7 c = search needs
+
+-- src/asking.rt:75:1
+returns : tie.Need-returns
+returns c = (rows-found _ _ _ _ _ _ _ _ _ _ _ _ _ (c .before .before .before .before .before .before .before .before .before .before .before .before .before .before .before .before .before .before .before .before .before .before .before .before .before .before .before .before .before .before .before .before .before .before .before .before .before .before .before .before .before .before .before .before .pre) _ _ _ (c .before .before .before .before .before .before .before .before .before .before .before .before .before .before .before .before .before .before .before .before .before .before .before .before .before .before .before .before .before .turn .ensures) (c .before .before .before .before .before .before .before .before .before .before .before .before .before .before .before .before .before .before .before .before .before .before .before .before .before .before .before .before .before .turn .kept .1 .1 .1 .0) _ _ (c .before .before .before .before .before .before .before .before .before .before .before .before .before .before .before .before .before .before .before .search .ensures .0) (c .before .before .before .before .before .before .search2 .ensures .0), (c .before .before .before .before .before .before .search2 .ensures .1 .0 ∙ c .before .before .before .before .before .before .before .before .before .before .before .before .before .before .before .before .before .before .before .search .ensures .1 .0, c .before .before .before .before .before .before .search2 .ensures .1 .1 ∙ c .before .before .before .before .before .before .before .before .before .before .before .before .before .before .before .before .before .before .before .search .ensures .1 .1))
+
+pub find-rows-spec : {M : Type 1} → statement M
+find-rows-spec =
+    tie.close
+    (tie.spec
+    turn-requires
+    search-requires
+    search-requires-2
+    same-length
+    same-length-2
+    same-length-3
+    same-length-4
+    same-length-5
+    same-length-6
+    same-length-7
+    returns)

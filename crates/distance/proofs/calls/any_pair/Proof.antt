@@ -1,0 +1,186 @@
+use native.Mathlib.Omega.{arith}
+use Rattle.distance.proofs.Outcomes.{pair-few, pair-refused-early, pair-refused-late, pair-ready, pair-answered}
+use borrow.Author.Needs.{needs}
+use Rattle.distance.proofs.calls.any_pair.Statement.{statement}
+use Rattle.distance.proofs.calls.any_pair.Tie as tie
+use Rattle.distance.proofs.calls.any_pair.Reads as reads
+use Rattle.distance.proofs.calls.any_pair.Lts as lts
+use Rattle.distance.proofs.asking.ask_pair.Reads as ask-pair-reads
+use Rattle.distance.proofs.calls.answer.Reads as answer-reads
+use Rattle.distance.proofs.calls.check_pair_lengths.Reads as check-pair-lengths-reads
+use Rattle.distance.proofs.checking.check_pair_input.Reads as check-pair-input-reads
+use Rattle.road.proofs.node_count.Reads as node-count-reads
+use Rattle.road.proofs.wide.Reads as wide-reads
+
+-- src/calls.rt:198:9
+check-pair-input-requires : tie.Need-check-pair-input-requires
+check-pair-input-requires c κs = search needs
+
+-- src/calls.rt:209:29
+enum-known-input : tie.Need-enum-known-input
+enum-known-input c = search needs
+
+-- src/calls.rt:210:9
+returns : tie.Need-returns
+returns c = pair-refused-early _ _ _ _ _ _ _ _ _ _ _ _ (c .before .before .before .check-pair-input .ensures) (c .before .input .given .1)
+
+enum-told : tie.Need-enum-told
+enum-told c = search needs
+
+-- src/calls.rt:213:9
+node-count-requires : tie.Need-node-count-requires
+node-count-requires c κs = search needs
+
+-- src/calls.rt:212:9
+check-pair-lengths-requires : tie.Need-check-pair-lengths-requires
+check-pair-lengths-requires c κs = omega (arith, c .before .before .before .before .before .before .before .before .before .before .node-count .ensures, pair-few _ _ _ _ _ _ _ _ _ _ (c .before .before .before .before .before .before .before .before .before .before .before .before .before .check-pair-input .ensures) (c .before .before .before .before .before .before .before .before .before .before .before .enum-told .given .1))
+
+-- src/calls.rt:226:29
+enum-known-lengths : tie.Need-enum-known-lengths
+enum-known-lengths c = search needs
+
+-- src/calls.rt:227:9
+same-length : tie.Need-same-length
+same-length c = search needs
+
+-- src/calls.rt:227:9
+same-length-2 : tie.Need-same-length-2
+same-length-2 c = search needs
+
+-- src/calls.rt:227:9
+same-length-3 : tie.Need-same-length-3
+same-length-3 c = search needs
+
+-- src/calls.rt:227:9
+same-length-4 : tie.Need-same-length-4
+same-length-4 c = search needs
+
+-- src/calls.rt:227:9
+same-length-5 : tie.Need-same-length-5
+same-length-5 c = search needs
+
+-- src/calls.rt:227:9
+same-length-6 : tie.Need-same-length-6
+same-length-6 c = search needs
+
+-- src/calls.rt:227:9
+same-length-7 : tie.Need-same-length-7
+same-length-7 c = search needs
+
+-- src/calls.rt:227:9
+same-length-8 : tie.Need-same-length-8
+same-length-8 c = search needs
+
+-- src/calls.rt:227:9
+same-length-9 : tie.Need-same-length-9
+same-length-9 c = search needs
+
+-- src/calls.rt:227:9
+same-length-10 : tie.Need-same-length-10
+same-length-10 c = search needs
+
+-- src/calls.rt:227:9
+returns-2 : tie.Need-returns-2
+returns-2 c = pair-refused-late _ _ _ _ _ _ _ _ _ _ _ (c .before .before .before .before .before .before .before .before .before .before .before .before .before .before .before .before .before .check-pair-input .ensures) (c .before .before .before .before .before .before .before .before .before .before .before .before .before .before .before .enum-told .given .1) _ (rw (c .before .before .before .before .before .before .before .before .before .before .before .before .before .before .node-count .ensures) at (c .before .before .before .check-pair-lengths .ensures)) _ (c .before .lengths .given .1)
+
+enum-told-2 : tie.Need-enum-told-2
+enum-told-2 c = search needs
+
+-- src/calls.rt:237:9
+wide-requires : tie.Need-wide-requires
+wide-requires c κs = search needs
+
+-- src/calls.rt:238:9
+wide-requires-2 : tie.Need-wide-requires-2
+wide-requires-2 c κs = search needs
+
+-- src/calls.rt:229:9
+ask-pair-requires : tie.Need-ask-pair-requires
+ask-pair-requires c κs = pair-ready _ _ _ _ _ _ _ _ _ _ _ (c .before .before .before .before .before .before .before .before .before .before .before .before .before .before .before .before .before .before .before .before .before .before .before .before .before .before .before .before .check-pair-input .ensures) (c .before .before .before .before .before .before .before .before .before .before .before .before .before .before .before .before .before .before .before .before .before .before .before .before .before .before .enum-told .given .1) _ (rw (c .before .before .before .before .before .before .before .before .before .before .before .before .before .before .before .before .before .before .before .before .before .before .before .before .before .node-count .ensures) at (c .before .before .before .before .before .before .before .before .before .before .before .before .before .before .check-pair-lengths .ensures)) (c .before .before .before .before .before .before .before .before .before .before .before .before .enum-told2 .given .1) _ _ (c .before .before .before .before .before .before .before .before .before .before .before .wide .ensures) (c .before .before .before .before .before .before .before .before .before .before .wide2 .ensures)
+
+-- src/calls.rt:250:5
+answer-requires : tie.Need-answer-requires
+answer-requires c κs = search needs
+
+-- src/calls.rt:175:1
+same-length-11 : tie.Need-same-length-11
+same-length-11 c = search needs
+
+-- src/calls.rt:175:1
+same-length-12 : tie.Need-same-length-12
+same-length-12 c = search needs
+
+-- src/calls.rt:175:1
+same-length-13 : tie.Need-same-length-13
+same-length-13 c = search needs
+
+-- src/calls.rt:175:1
+same-length-14 : tie.Need-same-length-14
+same-length-14 c = search needs
+
+-- src/calls.rt:175:1
+same-length-15 : tie.Need-same-length-15
+same-length-15 c = search needs
+
+-- src/calls.rt:175:1
+same-length-16 : tie.Need-same-length-16
+same-length-16 c = search needs
+
+-- src/calls.rt:175:1
+same-length-17 : tie.Need-same-length-17
+same-length-17 c = search needs
+
+-- src/calls.rt:175:1
+same-length-18 : tie.Need-same-length-18
+same-length-18 c = search needs
+
+-- src/calls.rt:175:1
+same-length-19 : tie.Need-same-length-19
+same-length-19 c = search needs
+
+-- src/calls.rt:175:1
+same-length-20 : tie.Need-same-length-20
+same-length-20 c = search needs
+
+-- src/calls.rt:175:1
+returns-3 : tie.Need-returns-3
+returns-3 c = pair-answered _ _ _ _ _ _ _ _ _ _ _ (c .before .before .before .before .before .before .before .before .before .before .before .before .before .before .before .before .before .before .before .before .before .before .before .before .before .before .before .before .before .before .before .before .before .before .before .before .before .before .before .before .before .before .before .before .before .before .before .before .before .before .check-pair-input .ensures) (c .before .before .before .before .before .before .before .before .before .before .before .before .before .before .before .before .before .before .before .before .before .before .before .before .before .before .before .before .before .before .before .before .before .before .before .before .before .before .before .before .before .before .before .before .before .before .before .before .enum-told .given .1) _ (rw (c .before .before .before .before .before .before .before .before .before .before .before .before .before .before .before .before .before .before .before .before .before .before .before .before .before .before .before .before .before .before .before .before .before .before .before .before .before .before .before .before .before .before .before .before .before .before .before .node-count .ensures) at (c .before .before .before .before .before .before .before .before .before .before .before .before .before .before .before .before .before .before .before .before .before .before .before .before .before .before .before .before .before .before .before .before .before .before .before .before .check-pair-lengths .ensures)) (c .before .before .before .before .before .before .before .before .before .before .before .before .before .before .before .before .before .before .before .before .before .before .before .before .before .before .before .before .before .before .before .before .before .before .enum-told2 .given .1) _ _ _ (c .before .before .before .before .before .before .before .before .before .before .before .before .before .before .before .before .before .before .before .before .before .before .before .before .before .before .before .before .before .before .before .before .before .wide .ensures) (c .before .before .before .before .before .before .before .before .before .before .before .before .before .before .before .before .before .before .before .before .before .before .before .before .before .before .before .before .before .before .before .before .wide2 .ensures) (c .before .before .before .before .before .before .before .before .before .before .before .before .before .before .before .before .before .before .before .before .before .ask-pair .ensures .0) _ (c .before .before .before .before .before .before .before .before .before .before .before .before .before .before .before .before .before .before .before .before .before .ask-pair .ensures .1) _ (c .answer .ensures)
+
+pub any-pair-spec : {M : Type 1} → statement M
+any-pair-spec =
+    tie.close
+    (tie.spec
+    check-pair-input-requires
+    enum-known-input
+    returns
+    enum-told
+    node-count-requires
+    check-pair-lengths-requires
+    enum-known-lengths
+    same-length
+    same-length-2
+    same-length-3
+    same-length-4
+    same-length-5
+    same-length-6
+    same-length-7
+    same-length-8
+    same-length-9
+    same-length-10
+    returns-2
+    enum-told-2
+    wide-requires
+    wide-requires-2
+    ask-pair-requires
+    answer-requires
+    same-length-11
+    same-length-12
+    same-length-13
+    same-length-14
+    same-length-15
+    same-length-16
+    same-length-17
+    same-length-18
+    same-length-19
+    same-length-20
+    returns-3)

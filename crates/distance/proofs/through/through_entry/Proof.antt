@@ -1,0 +1,67 @@
+use native.Mathlib.Omega.{arith}
+use mathlib.Core.Path.{_≡_, refl, ap}
+use Rattle.distance.specs.Labels.{labelOf}
+use Rattle.distance.proofs.Searches.{asks-of, row-small, row-any}
+use Rattle.distance.proofs.Telling.{through-none, through-exits, told-at, gate-modest}
+use borrow.Author.Needs.{needs}
+use Rattle.distance.proofs.through.through_entry.Statement.{statement}
+use Rattle.distance.proofs.through.through_entry.Tie as tie
+use Rattle.distance.proofs.through.through_entry.Reads as reads
+use Rattle.distance.proofs.through.through_entry.Lts as lts
+use Rattle.distance.proofs.sums.gate.Reads as gate-reads
+use Rattle.distance.proofs.through.through_exits.Reads as through-exits-reads
+use Rattle.search.proofs.search.Reads as search-reads
+
+-- src/through.rt:87:9
+gate-requires : tie.Need-gate-requires
+gate-requires c κs = (omega (arith, c .before .before .before .before .before .before .before .before .before .before .pre .1 .0 .from, c .before .before .before .before .before .before .before .before .before .before .pre .1 .0 .bytes), (omega (arith, c .before .before .before .before .before .before .before .before .before .before .pre .1 .1, c .before .before .before .before .before .before .before .before .before .before .pre .1 .0 .bytes), omega (arith, c .before .before .before .before .before .before .before .before .before .before .pre .1 .0 .outward-long, c .before .before .before .before .before .before .before .before .before .before .pre .1 .0 .bytes)))
+
+enum-told : tie.Need-enum-told
+enum-told c = search needs
+
+-- src/through.rt:89:9
+enum-told-2 : tie.Need-enum-told-2
+enum-told-2 c = search needs
+
+-- src/through.rt:89:9
+returns : tie.Need-returns
+returns c = (through-none _ _ _ _ _ _ _ _ (c .before .before .gate .ensures) (ap labelOf (c .enum-told2 .given .1)), (refl, refl))
+
+-- src/through.rt:91:5
+search-requires : tie.Need-search-requires
+search-requires c κs = asks-of _ _ _ _ _ _ _ (c .before .before .before .before .before .before .before .before .before .before .before .before .before .before .before .before .pre .0) _ (c .before .before .before .before .before .before .before .before .before .before .before .before .before .before .before .before .pre .1 .1)
+
+-- src/through.rt:92:5
+through-exits-requires : tie.Need-through-exits-requires
+through-exits-requires c κs = (omega (arith, c .before .before .before .before .before .before .before .before .before .before .before .before .before .before .before .before .before .before .before .before .before .before .before .before .pre .1 .0 .to, c .before .before .before .before .before .before .before .before .before .before .before .before .before .before .before .before .before .before .before .before .before .before .before .before .pre .1 .0 .bytes), (omega (arith, c .before .before .before .before .before .before .before .search .kept .1 .1 .1 .1 .1 .0, c .before .before .before .before .before .before .before .before .before .before .before .before .before .before .before .before .before .before .before .before .before .before .before .before .pre .0 .room, c .before .before .before .before .before .before .before .before .before .before .before .before .before .before .before .before .before .before .before .before .before .before .before .before .pre .1 .0 .bytes), (omega (arith, c .before .before .before .before .before .before .before .before .before .before .before .before .before .before .before .before .before .before .before .before .before .before .before .before .pre .1 .0 .inward-long, c .before .before .before .before .before .before .before .before .before .before .before .before .before .before .before .before .before .before .before .before .before .before .before .before .pre .1 .0 .bytes), (row-small _ _ _ _ _ _ (c .before .before .before .before .before .before .before .before .before .before .before .before .before .before .before .before .before .before .before .before .before .before .before .before .pre .0 .sound) (c .before .before .before .before .before .before .before .search .ensures .0), (c .before .before .before .before .before .before .before .before .before .before .before .before .before .before .before .before .before .before .before .before .before .before .before .before .pre .1 .0 .inward-small, omega (arith, gate-modest _ _ _ _ _ (c .before .before .before .before .before .before .before .before .before .before .before .before .before .gate .ensures) (c .before .before .before .before .before .before .before .before .before .before .before .before .before .before .before .before .before .before .before .before .before .before .before .before .pre .1 .0 .outward-small), ap labelOf (c .before .before .before .before .before .before .before .before .before .before .before .enum-told .given .1)))))))
+
+-- src/through.rt:66:1
+same-length : tie.Need-same-length
+same-length c = search needs
+
+-- src/through.rt:66:1
+same-length-2 : tie.Need-same-length-2
+same-length-2 c = search needs
+
+-- src/through.rt:66:1
+same-length-3 : tie.Need-same-length-3
+same-length-3 c = search needs
+
+-- src/through.rt:66:1
+returns-2 : tie.Need-returns-2
+returns-2 c = (through-exits _ _ _ _ _ _ _ _ _ (c .before .before .before .before .before .before .before .before .before .before .before .before .before .before .gate .ensures) (λ x h. row-any _ _ _ _ _ _ _ (c .before .before .before .before .before .before .before .before .before .before .before .before .before .before .before .before .before .before .before .before .before .before .before .before .before .pre .0) _ _ (c .before .before .before .before .before .before .before .before .search .ensures .0) x (omega (arith, h, c .before .before .before .before .before .before .before .before .before .before .before .before .before .before .before .before .before .before .before .before .before .before .before .before .before .pre .1 .0 .bytes))) _ (c .through-exits .ensures), (c .before .before .before .before .before .before .before .before .search .ensures .1 .0, c .before .before .before .before .before .before .before .before .search .ensures .1 .1))
+
+pub through-entry-spec : {M : Type 1} → statement M
+through-entry-spec =
+    tie.close
+    (tie.spec
+    gate-requires
+    enum-told
+    enum-told-2
+    returns
+    search-requires
+    through-exits-requires
+    same-length
+    same-length-2
+    same-length-3
+    returns-2)
