@@ -18,13 +18,13 @@ use Rattle.distance.specs.Calls as D
 use Rattle.maps.specs.Calls.{CoverFound, OverlayFound, PairFound}
 use Rattle.maps.specs.Lists.{numbers}
 
-first-of : (Fs : List Fault) (G : Fault) (r : Refusal) → ((s : Refusal) → G s → ⊥) → First (Fs ++ (G ∷ [])) r → First Fs r
+pub first-of : (Fs : List Fault) (G : Fault) (r : Refusal) → ((s : Refusal) → G s → ⊥) → First (Fs ++ (G ∷ [])) r → First Fs r
 first-of [] G r h (inl g) = h r g
 first-of [] G r h (inr p) = p .1
 first-of (F ∷ Fs) G r h (inl f) = inl f
 first-of (F ∷ Fs) G r h (inr p) = inr (p .0, first-of Fs G r h (p .1))
 
-none-of : (Fs : List Fault) (G : Fault) → None (Fs ++ (G ∷ [])) → None Fs
+pub none-of : (Fs : List Fault) (G : Fault) → None (Fs ++ (G ∷ [])) → None Fs
 none-of [] G n = tt
 none-of (F ∷ Fs) G n = (n .0, none-of Fs G (n .1))
 
