@@ -1,0 +1,3 @@
+pub mod Saids
+pub mod Laying
+pub mod Fitting

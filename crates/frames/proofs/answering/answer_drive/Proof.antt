@@ -1,0 +1,85 @@
+use Rattle.frames.proofs.Saids.{drive-refused, drive-kept, kept-fits, kept-room}
+use native.Mathlib.Omega.{arith}
+use borrow.Author.Needs.{needs}
+use Rattle.frames.proofs.answering.answer_drive.Statement.{statement}
+use Rattle.frames.proofs.answering.answer_drive.Tie as tie
+use Rattle.frames.proofs.answering.answer_drive.Reads as reads
+use Rattle.frames.proofs.answering.answer_drive.Lts as lts
+use Rattle.drive.proofs.thin.Reads as thin-reads
+use Rattle.frames.proofs.answering.refuse.Reads as refuse-reads
+use Rattle.hexlines.proofs.write_kept.Reads as write-kept-reads
+
+-- src/answering.rt:103:9
+thin-requires : tie.Need-thin-requires
+thin-requires c κs = search needs
+
+-- src/answering.rt:105:29
+enum-known-found : tie.Need-enum-known-found
+enum-known-found c = search needs
+
+-- src/answering.rt:105:35
+refuse-requires : tie.Need-refuse-requires
+refuse-requires c κs = search needs
+
+-- src/answering.rt:106:29
+enum-known-found-2 : tie.Need-enum-known-found-2
+enum-known-found-2 c = search needs
+
+-- src/answering.rt:108:44
+sub-write-kept : tie.Need-sub-write-kept
+sub-write-kept c = search needs
+
+-- src/answering.rt:108:44
+part-write-kept-start : tie.Need-part-write-kept-start
+part-write-kept-start c = search needs
+
+-- src/answering.rt:108:44
+part-write-kept-end : tie.Need-part-write-kept-end
+part-write-kept-end c = omega (arith, kept-fits (c .before .before .before .before .before .before .before .before .before .before .before .before .before .before .before .before .args .starts .now) (c .before .before .before .before .before .before .before .before .before .before .before .before .before .before .before .before .args .heads .now) (c .before .before .before .before .before .before .before .before .before .before .before .before .before .before .before .before .args .weights .now) (c .before .before .before .before .before .before .before .before .before .before .before .before .before .before .before .before .args .set .now) (c .before .before .before .before .before .before .before .before .before .before .before .before .before .before .before .before .args .nodes .now) (c .before .before .before .before .before .before .before .before .before .before .before .before .before .before .before .before .args .positions .now) (c .before .before .before .before .before .before .before .before .before .before .before .before .before .before .before .before .pre .0 .1) (c .before .before .before .before .before .before .before .before .before .before .before .before .before .before .before .before .args .line) _ _ (c .before .before .before .before .before .before .before .thin .ensures) _ (c .before .before .before .found2 .given .1) (c .before .before .before .before .before .before .before .thin .kept .1 .1 .1 .1 .1 .0) .0)
+
+-- src/answering.rt:108:17
+write-kept-requires : tie.Need-write-kept-requires
+write-kept-requires c κs = kept-room (c .before .before .before .before .before .before .before .before .before .before .before .before .before .before .before .before .before .args .starts .now) (c .before .before .before .before .before .before .before .before .before .before .before .before .before .before .before .before .before .args .heads .now) (c .before .before .before .before .before .before .before .before .before .before .before .before .before .before .before .before .before .args .weights .now) (c .before .before .before .before .before .before .before .before .before .before .before .before .before .before .before .before .before .args .set .now) (c .before .before .before .before .before .before .before .before .before .before .before .before .before .before .before .before .before .args .nodes .now) (c .before .before .before .before .before .before .before .before .before .before .before .before .before .before .before .before .before .args .positions .now) (c .before .before .before .before .before .before .before .before .before .before .before .before .before .before .before .before .before .pre .0 .1) (c .before .before .before .before .before .before .before .before .before .before .before .before .before .before .before .before .before .args .line) _ _ (c .before .before .before .before .before .before .before .before .thin .ensures) _ (c .before .before .before .before .found2 .given .1) (c .before .before .before .before .before .before .before .before .thin .kept .1 .1 .1 .1 .1 .0) _ (c .before .before .before .before .before .before .before .before .before .before .before .before .before .before .before .before .before .args .out .now) (c .before .before .before .before .before .before .before .before .before .before .before .before .before .before .before .before .before .pre .0 .0) (c .before .before .before .before .before .before .before .before .before .before .before .before .before .before .before .before .before .pre .1)
+
+-- src/answering.rt:88:1
+same-length : tie.Need-same-length
+same-length c = search needs
+
+-- src/answering.rt:88:1
+same-length-2 : tie.Need-same-length-2
+same-length-2 c = search needs
+
+-- src/answering.rt:88:1
+returns : tie.Need-returns
+returns c = drive-refused (c .before .before .before .before .before .before .before .before .before .before .before .before .before .before .before .before .before .before .args .starts .now) (c .before .before .before .before .before .before .before .before .before .before .before .before .before .before .before .before .before .before .args .heads .now) (c .before .before .before .before .before .before .before .before .before .before .before .before .before .before .before .before .before .before .args .weights .now) (c .before .before .before .before .before .before .before .before .before .before .before .before .before .before .before .before .before .before .args .set .now) (c .before .before .before .before .before .before .before .before .before .before .before .before .before .before .before .before .before .before .args .nodes .now) (c .before .before .before .before .before .before .before .before .before .before .before .before .before .before .before .before .before .before .args .positions .now) (c .before .before .before .before .before .before .before .before .before .before .before .before .before .before .before .before .before .before .pre .0 .1) (c .before .before .before .before .before .before .before .before .before .before .before .before .before .before .before .before .before .before .args .line) _ _ (c .before .before .before .before .before .before .before .before .before .thin .ensures) _ _ _ _ _ _ _ (c .before .before .before .before .before .found .given .1) (c .before .before .refuse .ensures)
+
+-- src/answering.rt:88:1
+same-length-3 : tie.Need-same-length-3
+same-length-3 c = search needs
+
+-- src/answering.rt:88:1
+same-length-4 : tie.Need-same-length-4
+same-length-4 c = search needs
+
+-- src/answering.rt:88:1
+returns-2 : tie.Need-returns-2
+returns-2 c = drive-kept (c .before .before .before .before .before .before .before .before .before .before .before .before .before .before .before .before .before .before .before .before .args .starts .now) (c .before .before .before .before .before .before .before .before .before .before .before .before .before .before .before .before .before .before .before .before .args .heads .now) (c .before .before .before .before .before .before .before .before .before .before .before .before .before .before .before .before .before .before .before .before .args .weights .now) (c .before .before .before .before .before .before .before .before .before .before .before .before .before .before .before .before .before .before .before .before .args .set .now) (c .before .before .before .before .before .before .before .before .before .before .before .before .before .before .before .before .before .before .before .before .args .nodes .now) (c .before .before .before .before .before .before .before .before .before .before .before .before .before .before .before .before .before .before .before .before .args .positions .now) (c .before .before .before .before .before .before .before .before .before .before .before .before .before .before .before .before .before .before .before .before .pre .0 .1) (c .before .before .before .before .before .before .before .before .before .before .before .before .before .before .before .before .before .before .before .before .args .line) _ _ (c .before .before .before .before .before .before .before .before .before .before .before .thin .ensures) _ (c .before .before .before .before .before .before .before .found2 .given .1) (c .before .before .before .before .before .before .before .before .before .before .before .thin .kept .1 .1 .1 .1 .1 .0) _ _ _ _ (c .before .before .write-kept .ensures)
+
+pub answer-drive-spec : {M : Type 1} → statement M
+answer-drive-spec =
+    tie.close
+    (tie.spec
+    thin-requires
+    enum-known-found
+    refuse-requires
+    enum-known-found-2
+    sub-write-kept
+    part-write-kept-start
+    part-write-kept-end
+    write-kept-requires
+    same-length
+    same-length-2
+    returns
+    same-length-3
+    same-length-4
+    returns-2)

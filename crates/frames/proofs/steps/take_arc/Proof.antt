@@ -1,0 +1,154 @@
+use Rattle.frames.proofs.Fitting.{lengths-set}
+use borrow.Author.Needs.{needs}
+use Rattle.frames.proofs.steps.take_arc.Statement.{statement}
+use Rattle.frames.proofs.steps.take_arc.Tie as tie
+use Rattle.frames.proofs.steps.take_arc.Reads as reads
+use Rattle.frames.proofs.steps.take_arc.Lts as lts
+use Rattle.frames.proofs.steps.complete.Reads as complete-reads
+use Rattle.frames.proofs.steps.falls.Reads as falls-reads
+use Rattle.frames.proofs.steps.stop.Reads as stop-reads
+
+-- src/steps.rt:243:8
+falls-requires : tie.Need-falls-requires
+falls-requires c κs = search needs
+
+-- src/steps.rt:244:9
+stop-requires : tie.Need-stop-requires
+stop-requires c κs = search needs
+
+-- src/steps.rt:244:9
+same-length : tie.Need-same-length
+same-length c = search needs
+
+-- src/steps.rt:244:9
+same-length-2 : tie.Need-same-length-2
+same-length-2 c = search needs
+
+-- src/steps.rt:244:9
+returns : tie.Need-returns
+returns c = search needs
+
+-- src/steps.rt:246:5
+mul-tails : tie.Need-mul-tails
+mul-tails c = search needs
+
+-- src/steps.rt:246:5
+slice-write-tails : tie.Need-slice-write-tails
+slice-write-tails c = search needs
+
+-- src/steps.rt:247:5
+mul-heads : tie.Need-mul-heads
+mul-heads c = search needs
+
+-- src/steps.rt:247:5
+slice-write-heads : tie.Need-slice-write-heads
+slice-write-heads c = search needs
+
+-- src/steps.rt:248:5
+mul-weights : tie.Need-mul-weights
+mul-weights c = search needs
+
+-- src/steps.rt:248:5
+slice-write-weights : tie.Need-slice-write-weights
+slice-write-weights c = search needs
+
+-- src/steps.rt:249:8
+add-if2 : tie.Need-add-if2
+add-if2 c = search needs
+
+-- src/steps.rt:257:33
+add-t31 : tie.Need-add-t31
+add-t31 c = search needs
+
+-- src/steps.rt:250:9
+same-length-3 : tie.Need-same-length-3
+same-length-3 c = search needs
+
+-- src/steps.rt:250:9
+same-length-4 : tie.Need-same-length-4
+same-length-4 c = search needs
+
+-- src/steps.rt:250:9
+same-length-5 : tie.Need-same-length-5
+same-length-5 c = search needs
+
+-- src/steps.rt:250:9
+returns-2 : tie.Need-returns-2
+returns-2 c = search needs
+
+-- src/steps.rt:263:5
+complete-requires : tie.Need-complete-requires
+complete-requires c κs = ((c .before .before .before .before .before .before .before .before .before .before .before .before .before .before .before .before .before .before .before .before .before .before .before .before .before .before .pre .0 .0, c .before .before .before .before .before .before .before .before .before .before .before .before .before .before .before .before .before .before .before .before .before .before .before .before .before .before .pre .0 .1), (lengths-set (c .before .before .before .before .before .before .before .before .before .before .before .before .before .before .before .before .before .before .before .before .before .before .before .before .before .before .args .tails .now) (c .before .before .before .before .before .before .before .before .before .before .before .before .before .before .before .before .before .before .before .before .before .before .before .before .before .before .args .heads .now) (c .before .before .before .before .before .before .before .before .before .before .before .before .before .before .before .before .before .before .before .before .before .before .before .before .before .before .args .weights .now) (c .before .before .before .before .before .before .before .before .before .before .before .before .before .before .before .before .before .before .before .before .before .before .before .before .before .before .args .starts .now) (c .before .before .before .before .before .before .before .before .before .before .before .before .before .before .before .before .before .before .before .before .before .before .before .before .before .before .args .set .now) (c .before .before .before .before .before .before .before .before .before .before .before .before .before .before .before .before .before .before .before .before .before .before .before .before .before .before .args .over-starts .now) (c .before .before .before .before .before .before .before .before .before .before .before .before .before .before .before .before .before .before .before .before .before .before .before .before .before .before .args .over-heads .now) (c .before .before .before .before .before .before .before .before .before .before .before .before .before .before .before .before .before .before .before .before .before .before .before .before .before .before .args .over-weights .now) (c .before .before .before .before .before .before .before .before .before .before .before .before .before .before .before .before .before .before .before .before .before .before .before .before .before .before .pre .1 .0) _ _ _ _, (c .before .before .before .before .before .before .before .before .before .before .before .before .before .before .before .before .before .before .before .before .before .before .before .before .before .before .pre .1 .1 .0, c .before .before .before .before .before .before .before .before .before .before .before .before .before .before .before .before .before .before .before .before .before .before .before .before .before .before .pre .1 .1 .1)))
+
+-- src/steps.rt:216:1
+same-length-6 : tie.Need-same-length-6
+same-length-6 c = search needs
+
+-- src/steps.rt:216:1
+same-length-7 : tie.Need-same-length-7
+same-length-7 c = search needs
+
+-- src/steps.rt:216:1
+same-length-8 : tie.Need-same-length-8
+same-length-8 c = search needs
+
+-- src/steps.rt:216:1
+same-length-9 : tie.Need-same-length-9
+same-length-9 c = search needs
+
+-- src/steps.rt:216:1
+same-length-10 : tie.Need-same-length-10
+same-length-10 c = search needs
+
+-- src/steps.rt:216:1
+same-length-11 : tie.Need-same-length-11
+same-length-11 c = search needs
+
+-- src/steps.rt:216:1
+same-length-12 : tie.Need-same-length-12
+same-length-12 c = search needs
+
+-- src/steps.rt:216:1
+same-length-13 : tie.Need-same-length-13
+same-length-13 c = search needs
+
+-- src/steps.rt:216:1
+same-length-14 : tie.Need-same-length-14
+same-length-14 c = search needs
+
+-- src/steps.rt:216:1
+returns-3 : tie.Need-returns-3
+returns-3 c = search needs
+
+pub take-arc-spec : {M : Type 1} → statement M
+take-arc-spec =
+    tie.close
+    (tie.spec
+    falls-requires
+    stop-requires
+    same-length
+    same-length-2
+    returns
+    mul-tails
+    slice-write-tails
+    mul-heads
+    slice-write-heads
+    mul-weights
+    slice-write-weights
+    add-if2
+    add-t31
+    same-length-3
+    same-length-4
+    same-length-5
+    returns-2
+    complete-requires
+    same-length-6
+    same-length-7
+    same-length-8
+    same-length-9
+    same-length-10
+    same-length-11
+    same-length-12
+    same-length-13
+    same-length-14
+    returns-3)

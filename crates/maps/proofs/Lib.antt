@@ -1,0 +1,3 @@
+pub mod Fills
+pub mod Printed
+pub mod Founds

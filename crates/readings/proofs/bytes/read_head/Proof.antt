@@ -1,0 +1,70 @@
+use Rattle.readings.proofs.Shapes.{head-read}
+use Rattle.readings.proofs.Shapes.{fixed-wrong, head-length, head-nodes, head-arcs, head-told}
+use borrow.Author.Needs.{needs}
+use Rattle.readings.proofs.bytes.read_head.Statement.{statement}
+use Rattle.readings.proofs.bytes.read_head.Tie as tie
+use Rattle.readings.proofs.bytes.read_head.Reads as reads
+use Rattle.readings.proofs.bytes.read_head.Lts as lts
+use Rattle.readings.proofs.bytes.byte.Reads as byte-reads
+use Rattle.readings.proofs.bytes.two_at.Reads as two-at-reads
+use Rattle.road.proofs.wide.Reads as wide-reads
+
+-- src/bytes.rt:34:9
+returns : tie.Need-returns
+returns c = fixed-wrong _ (λ room. head-length room (c .before .before .args .bytes .now) (c .before .before .pre) (c .if1 .taken))
+
+-- src/bytes.rt:36:9
+two-at-requires : tie.Need-two-at-requires
+two-at-requires c κs = search needs
+
+-- src/bytes.rt:37:9
+two-at-requires-2 : tie.Need-two-at-requires-2
+two-at-requires-2 c κs = search needs
+
+-- src/bytes.rt:38:18
+shared-slice-read-byte : tie.Need-shared-slice-read-byte
+shared-slice-read-byte c = search needs
+
+-- src/bytes.rt:38:9
+byte-requires : tie.Need-byte-requires
+byte-requires c κs = search needs
+
+-- src/bytes.rt:40:9
+returns-2 : tie.Need-returns-2
+returns-2 c = fixed-wrong _ (λ room. head-nodes room (c .before .before .before .before .before .before .before .args .bytes .now) (c .before .before .before .before .before .before .before .pre) _ _ _ (c .before .before .before .before .before .if1 .left) (c .before .before .before .before .two-at .ensures) (c .before .before .before .two-at2 .ensures) (c .before .byte .ensures) (c .if2 .taken))
+
+-- src/bytes.rt:43:9
+returns-3 : tie.Need-returns-3
+returns-3 c = fixed-wrong _ (λ room. head-arcs room (c .before .before .before .before .before .before .before .before .args .bytes .now) (c .before .before .before .before .before .before .before .before .pre) _ _ _ (c .before .before .before .before .before .before .if1 .left) (c .before .before .before .before .before .two-at .ensures) (c .before .before .before .before .two-at2 .ensures) (c .before .before .byte .ensures) (c .if3 .taken))
+
+-- src/bytes.rt:45:26
+wide-requires : tie.Need-wide-requires
+wide-requires c κs = search needs
+
+-- src/bytes.rt:45:45
+wide-requires-2 : tie.Need-wide-requires-2
+wide-requires-2 c κs = search needs
+
+-- src/bytes.rt:45:65
+wide-requires-3 : tie.Need-wide-requires-3
+wide-requires-3 c κs = search needs
+
+-- src/bytes.rt:29:1
+returns-4 : tie.Need-returns-4
+returns-4 c = head-told (c .before .before .before .before .before .before .before .before .before .before .before .args .bytes .now) _ _ _ _ _ _ (c .before .before .wide .ensures) (c .before .wide2 .ensures) (c .wide3 .ensures) (λ room. head-read room (c .before .before .before .before .before .before .before .before .before .before .before .args .bytes .now) (c .before .before .before .before .before .before .before .before .before .before .before .pre) _ _ _ (c .before .before .before .before .before .before .before .before .before .if1 .left) (c .before .before .before .before .before .before .before .before .two-at .ensures) (c .before .before .before .before .before .before .before .two-at2 .ensures) (c .before .before .before .before .before .byte .ensures) (c .before .before .before .before .if2 .left) (c .before .before .before .if3 .left))
+
+pub read-head-spec : {M : Type 1} → statement M
+read-head-spec =
+    tie.close
+    (tie.spec
+    returns
+    two-at-requires
+    two-at-requires-2
+    shared-slice-read-byte
+    byte-requires
+    returns-2
+    returns-3
+    wide-requires
+    wide-requires-2
+    wide-requires-3
+    returns-4)
