@@ -65,7 +65,7 @@ def questions(rng, n, arcs):
     lines = []
     for _ in range(rng.choice([0, 1, 3, 6, 10])):
         if rng.random() < 0.5:
-            top = n if rng.random() < 0.93 else n + 2
+            top = max(1, n) if rng.random() < 0.93 else n + 2
             lines.append(hexline(b"\x20", two(rng.randrange(top)), two(rng.randrange(top))))
             continue
         v = rng.randrange(n) if n else 0
