@@ -18,7 +18,7 @@ use Rattle.search.specs.Rows.{Free, Row}
 use Rattle.overlay.specs.Numbers.{Number, one}
 use Rattle.overlay.specs.Overlays.{Outside, OverlayArc, HasArc, Arcs, none, row, ArcsInAll}
 use Rattle.overlay.specs.Writing.{Searching, Local, Found, Light, Fits, RowRoom, Enough}
-use Rattle.overlay.proofs.Numbers.{number-one, number-few, number-rise, number-none, number-of, number-map}
+use Rattle.overlay.proofs.Numbers.{rise, number-one, number-few, number-rise, number-none, number-of, number-map}
 
 pub has-arc : {G : Graph} {chosen : List ℕ} {a b w : ℕ} → OverlayArc G chosen a b w → HasArc G chosen a b
 has-arc {w = w} x = record { tail = x .tail; head = x .head; apart = x .apart; weight = w; some = x .least .is }
@@ -123,23 +123,11 @@ module _ {G : Graph} {chosen : List ℕ} where
   arcs-few none = omega arith
   arcs-few (row {a = a} x y) = omega (arith, arcs-few x, number-few y, suc-mul a (G .nodes))
 
-  same-arcs : {a m b r : ℕ} → a ≡ b → Arcs G chosen a m → Arcs G chosen b r → m ≡ r
-  same-arcs {m = m} e x y = arcs-one (subst (λ (k : ℕ). Arcs G chosen k m) e x) y
-
-  rise-by : {a m b r : ℕ} → Dec (a ≡ suc b) → a ≤ suc b → Arcs G chosen a m → Arcs G chosen (suc b) r → (r′ : ℕ) → (a ≤ b → m ≤ r′) → r′ ≤ r → m ≤ r
-  rise-by (yes e) h x y r′ f l = omega (arith, same-arcs e x y)
-  rise-by {a} {m} {b} {r} (no d) h x y r′ f l =
-      let below : a ≤ b = not-last h d in
-      omega (arith, f below)
-    where
-      not-last : a ≤ suc b → (a ≡ suc b → ⊥) → a ≤ b
-      not-last g n = omega arith
+  arcs-back : (k r : ℕ) → Arcs G chosen (suc k) r → (q : ℕ) × Arcs G chosen k q × (q ≤ r)
+  arcs-back k r (row {m = m} x y) = (m, x, omega arith)
 
   pub arcs-rise : {a m b r : ℕ} → a ≤ b → Arcs G chosen a m → Arcs G chosen b r → m ≤ r
-  arcs-rise {a = a} h x none =
-      let first : a ≡ 0 = omega arith in
-      omega (arith, same-arcs first x none)
-  arcs-rise {a = a} h x (row {a = b} {m = m} {r = r} y z) = rise-by (ℕ-discrete a (suc b)) h x (row y z) m (λ g. arcs-rise g x y) (omega arith)
+  arcs-rise {a} {m} {b} {r} h x y = rise (Arcs G chosen) (λ k p q. arcs-one) arcs-back b a m r h x y
 
   -- the row of a has room behind the arcs before it
   pub room-for-row :

@@ -7,6 +7,19 @@ use native.Mathlib.Numerals.{add-one}
 use native.Mathlib.Omega.{arith}
 use Rattle.overlay.specs.Numbers.{Number, none, one, skip}
 
+-- A count up to n that is one, and of which a part counts no more than the whole, does not fall as n rises.
+pub rise :
+    (R : ℕ → ℕ → Type 0) → ((n m r : ℕ) → R n m → R n r → m ≡ r) → ((k r : ℕ) → R (suc k) r → (q : ℕ) × R k q × (q ≤ r)) → (n′ n m r : ℕ) → n ≤ n′ → R n m →
+    R n′ r → m ≤ r
+rise R same back zero n m r h x y =
+    let first : n ≡ 0 = omega arith in
+    omega (arith, same 0 m r (subst (λ (k : ℕ). R k m) first x) y)
+rise R same back (suc k) n m r h x y = by (ℕ-discrete n (suc k)) (back k r y) (λ q g z. rise R same back k n m q g x z)
+  where
+    by : Dec (n ≡ suc k) → (q : ℕ) × R k q × (q ≤ r) → ((q : ℕ) → n ≤ k → R k q → m ≤ q) → m ≤ r
+    by (yes e) b again = omega (arith, same (suc k) m r (subst (λ (l : ℕ). R l m) e x) y)
+    by (no d) b again = omega (arith, again (b .0) (omega arith) (b .1), b .2)
+
 module _ {P : ℕ → Type 0} where
   pub number-one : {n m r : ℕ} → Number P n m → Number P n r → m ≡ r
   number-one none none = refl
@@ -20,23 +33,13 @@ module _ {P : ℕ → Type 0} where
   number-few (one p x) = omega (arith, number-few x)
   number-few (skip p x) = omega (arith, number-few x)
 
-  same-number : {n m n′ r : ℕ} → n ≡ n′ → Number P n m → Number P n′ r → m ≡ r
-  same-number {m = m} e x y = number-one (subst (λ (k : ℕ). Number P k m) e x) y
-
-  rise-by : {n m k r : ℕ} → Dec (n ≡ suc k) → n ≤ suc k → Number P n m → Number P (suc k) r → (r′ : ℕ) → (n ≤ k → m ≤ r′) → r′ ≤ r → m ≤ r
-  rise-by (yes e) h x y r′ f l = omega (arith, same-number e x y)
-  rise-by {n} {m} {k} {r} (no d) h x y r′ f l =
-      let below : n ≤ k = not-last h d in
-      omega (arith, f below)
-    where
-      not-last : n ≤ suc k → (n ≡ suc k → ⊥) → n ≤ k
-      not-last a b = omega arith
+  number-back : (k r : ℕ) → Number P (suc k) r → (q : ℕ) × Number P k q × (q ≤ r)
+  number-back k r (one {m = m} p x) = (m, x, omega arith)
+  number-back k r (skip p x) = (r, x, omega arith)
 
   -- more numbers, no fewer of them with P
   pub number-rise : {n m n′ r : ℕ} → n ≤ n′ → Number P n m → Number P n′ r → m ≤ r
-  number-rise h x none = omega (arith, number-few x)
-  number-rise {n = n} h x (one {n = k} {m = r} p y) = rise-by (ℕ-discrete n (suc k)) h x (one p y) r (λ g. number-rise g x y) (omega arith)
-  number-rise {n = n} h x (skip {n = k} {m = r} p y) = rise-by (ℕ-discrete n (suc k)) h x (skip p y) r (λ g. number-rise g x y) (omega arith)
+  number-rise {n} {m} {n′} {r} h x y = rise (Number P) (λ k a b. number-one) number-back n′ n m r h x y
 
   -- one number more, as a loop counts
   pub number-more : (n m r : ℕ) → r ≡ m + 1 → P n → Number P n m → Number P (n + 1) r
