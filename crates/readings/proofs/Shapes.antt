@@ -249,7 +249,7 @@ small-twos : (l : List ℕ) → Each (λ (x : ℕ). x < 256) (twos l)
 small-twos [] = tt
 small-twos (x ∷ l) = (omega arith, (omega arith, small-twos l))
 
-small-bytes : (f : Frame) → Each (λ (x : ℕ). x < 256) (bytesOf f)
+pub small-bytes : (f : Frame) → Each (λ (x : ℕ). x < 256) (bytesOf f)
 small-bytes (head n m k) = (omega arith, (omega arith, (omega arith, (omega arith, (omega arith, (omega arith, tt))))))
 small-bytes (arc t h w) =
     (omega arith, (omega arith, (omega arith, (omega arith, (omega arith, (omega arith, (omega arith, (omega arith, (omega arith, tt)))))))))
@@ -257,7 +257,7 @@ small-bytes (question a b) = (omega arith, (omega arith, (omega arith, (omega ar
 small-bytes (drive l) = (omega arith, (omega arith, small-twos l))
 
 -- and no frame that is taken has too many
-few-bytes : (room : ℕ) (f : Frame) → Taken room f → length (bytesOf f) ≤ mostBytes
+pub few-bytes : (room : ℕ) (f : Frame) → Taken room f → length (bytesOf f) ≤ mostBytes
 few-bytes room (head n m k) t = omega arith
 few-bytes room (arc t h w) t′ = omega arith
 few-bytes room (question a b) t = omega arith
