@@ -1,3 +1,4 @@
 pub mod Saids
 pub mod Laying
 pub mod Fitting
+pub mod Unique
