@@ -1,6 +1,8 @@
 -- The number and the values that a struct gives: the same as the enum's that it stands for.
+use mathlib.Core.Path.{_≡_}
+use mathlib.Core.Logic.{_≢_}
 use mathlib.Core.List.{[], _∷_}
-use Prim.Native.Nat.{ℕ, zero, suc}
+use Prim.Native.Nat.{ℕ, zero, suc, _≤_}
 use Rattle.road.specs.Refusals.{Said, answer}
 use Rattle.gulvane.specs.declared.GulvaneCount.{GulvaneCount}
 use Rattle.gulvane.specs.declared.GulvaneDistance.{GulvaneDistance}
@@ -21,3 +23,13 @@ distanceSaid (suc r) way weight = record { number = suc r; values = [] }
 
 abbrev pub saidDistance : GulvaneDistance → Said
 saidDistance x = distanceSaid (x .refusal) (x .way) (x .weight)
+
+-- the fields that nothing is said by are 0: the count beside a refusal
+pub record BareCount (x : GulvaneCount) : Type 0 where
+  pub refused : x .refusal ≢ 0 → x .count ≡ 0
+
+-- the way beside a refusal, and the weight where there is no way
+pub record BareDistance (x : GulvaneDistance) : Type 0 where
+  pub refused : x .refusal ≢ 0 → x .way ≡ 0
+  pub bit : x .way ≤ 1
+  pub no-way : x .way ≡ 0 → x .weight ≡ 0

@@ -4,7 +4,7 @@ use crate::results::of_distance;
 use distance::any_pair;
 use distance::handheld;
 ghost use Rattle.distance.specs.Calls.{HandOutcome, PairOutcome};
-ghost use Rattle.gulvane.specs.Results.{saidDistance};
+ghost use Rattle.gulvane.specs.Results.{BareDistance, saidDistance};
 
 // The handheld question.
 #[no_mangle]
@@ -22,6 +22,7 @@ pub extern "C" fn gulvane_handheld(
     blocked: &mut [u8],
 ) -> GulvaneDistance
     ensures { λ r. ⌜ HandOutcome (now (set .entry)) (now («over_starts» .entry)) (now («over_heads» .entry)) (now («over_weights» .entry)) s t (record { labels = now (labels .entry); heap = now (heap .entry); places = now (places .entry); touched = now (touched .entry); blocked = now (blocked .entry) }) (saidDistance r) (record { labels = now (labels .exit); heap = now (heap .exit); places = now (places .exit); touched = now (touched .exit); blocked = now (blocked .exit) }) ⌝ }
+    ensures { λ r. ⌜ BareDistance r ⌝ }
 {
     of_distance(handheld(
         set,
@@ -62,6 +63,7 @@ pub extern "C" fn gulvane_any_pair(
     blocked: &mut [u8],
 ) -> GulvaneDistance
     ensures { λ r. ⌜ PairOutcome (now (starts .entry)) (now (heads .entry)) (now (weights .entry)) (now (set .entry)) (now («over_starts» .entry)) (now («over_heads» .entry)) (now («over_weights» .entry)) s t (record { starts = now («starts_back» .entry); heads = now («heads_back» .entry); weights = now («weights_back» .entry); outward = now (outward .entry); inward = now (inward .entry); labels = now (labels .entry); heap = now (heap .entry); places = now (places .entry); touched = now (touched .entry); blocked = now (blocked .entry) }) (saidDistance r) (record { starts = now («starts_back» .exit); heads = now («heads_back» .exit); weights = now («weights_back» .exit); outward = now (outward .exit); inward = now (inward .exit); labels = now (labels .exit); heap = now (heap .exit); places = now (places .exit); touched = now (touched .exit); blocked = now (blocked .exit) }) ⌝ }
+    ensures { λ r. ⌜ BareDistance r ⌝ }
 {
     of_distance(any_pair(
         starts,

@@ -3,7 +3,7 @@ use crate::GulvaneCount;
 use crate::results::of_thin;
 use drive::thin;
 ghost use Rattle.drive.specs.Calls.{Outcome};
-ghost use Rattle.gulvane.specs.Results.{saidCount};
+ghost use Rattle.gulvane.specs.Results.{BareCount, saidCount};
 
 // Thins a drive.
 #[no_mangle]
@@ -16,6 +16,7 @@ pub extern "C" fn gulvane_thin(
     positions: &mut [u32],
 ) -> GulvaneCount
     ensures { λ r. ⌜ Outcome (now (starts .entry)) (now (heads .entry)) (now (weights .entry)) (now (set .entry)) (now (drive .entry)) (now (positions .entry)) (saidCount r) (now (positions .exit)) ⌝ }
+    ensures { λ r. ⌜ BareCount r ⌝ }
 {
     of_thin(thin(starts, heads, weights, set, drive, positions))
 }

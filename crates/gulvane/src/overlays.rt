@@ -3,7 +3,7 @@ use crate::GulvaneCount;
 use crate::results::of_overlay;
 use overlay::overlay;
 ghost use Rattle.overlay.specs.Calls.{Outcome};
-ghost use Rattle.gulvane.specs.Results.{saidCount};
+ghost use Rattle.gulvane.specs.Results.{BareCount, saidCount};
 
 // Builds the overlay of the set.
 #[no_mangle]
@@ -21,6 +21,7 @@ pub extern "C" fn gulvane_overlay(
     touched: &mut [u32],
 ) -> GulvaneCount
     ensures { λ r. ⌜ Outcome (now (starts .entry)) (now (heads .entry)) (now (weights .entry)) (now (set .entry)) (record { starts = now («over_starts» .entry); heads = now («over_heads» .entry); weights = now («over_weights» .entry); labels = now (labels .entry); heap = now (heap .entry); places = now (places .entry); touched = now (touched .entry) }) (saidCount r) (record { starts = now («over_starts» .exit); heads = now («over_heads» .exit); weights = now («over_weights» .exit); labels = now (labels .exit); heap = now (heap .exit); places = now (places .exit); touched = now (touched .exit) }) ⌝ }
+    ensures { λ r. ⌜ BareCount r ⌝ }
 {
     of_overlay(overlay(
         starts,

@@ -4,7 +4,7 @@ use crate::results::of_cover;
 use cover::cover;
 use road::NodeCount;
 ghost use Rattle.cover.specs.Calls.{Outcome};
-ghost use Rattle.gulvane.specs.Results.{saidCount};
+ghost use Rattle.gulvane.specs.Results.{BareCount, saidCount};
 
 // Picks the points.
 #[no_mangle]
@@ -23,6 +23,7 @@ pub extern "C" fn gulvane_cover(
     sizes: &mut [u32],
 ) -> GulvaneCount
     ensures { λ r. ⌜ Outcome (now (starts .entry)) (now (heads .entry)) (now (weights .entry)) k (now (order .entry)) (record { cover = now (points .entry); starts = now («starts_back» .entry); heads = now («heads_back» .entry); weights = now («weights_back» .entry); marks = now (marks .entry); pieces = now (pieces .entry); sizes = now (sizes .entry) }) (saidCount r) (record { cover = now (points .exit); starts = now («starts_back» .exit); heads = now («heads_back» .exit); weights = now («weights_back» .exit); marks = now (marks .exit); pieces = now (pieces .exit); sizes = now (sizes .exit) }) ⌝ }
+    ensures { λ r. ⌜ BareCount r ⌝ }
 {
     of_cover(cover(
         starts,

@@ -13,11 +13,12 @@ ghost use Rattle.cover.specs.Calls.{saidOf as coverSaid};
 ghost use Rattle.distance.specs.Calls.{saidOf as pathSaid};
 ghost use Rattle.drive.specs.Calls.{saidOf as thinSaid};
 ghost use Rattle.overlay.specs.Calls.{saidOf as overlaySaid};
-ghost use Rattle.gulvane.specs.Results.{saidCount, saidDistance};
+ghost use Rattle.gulvane.specs.Results.{BareCount, BareDistance, saidCount, saidDistance};
 
 // A refusal where a count would be.
 fn no_count(r: Refusal) -> GulvaneCount
     ensures { λ x. ⌜ saidCount x ≡ refusal r ⌝ }
+    ensures { λ x. ⌜ BareCount x ⌝ }
 {
     GulvaneCount {
         refusal: number(r) as u32,
@@ -28,6 +29,7 @@ fn no_count(r: Refusal) -> GulvaneCount
 // A refusal where a distance would be.
 fn no_distance(r: Refusal) -> GulvaneDistance
     ensures { λ x. ⌜ saidDistance x ≡ refusal r ⌝ }
+    ensures { λ x. ⌜ BareDistance x ⌝ }
 {
     GulvaneDistance {
         refusal: number(r) as u32,
@@ -38,6 +40,7 @@ fn no_distance(r: Refusal) -> GulvaneDistance
 
 pub fn of_cover(a: CoverAnswer) -> GulvaneCount
     ensures { λ x. ⌜ saidCount x ≡ coverSaid a ⌝ }
+    ensures { λ x. ⌜ BareCount x ⌝ }
 {
     match a {
         CoverAnswer::Covered(c) => GulvaneCount {
@@ -50,6 +53,7 @@ pub fn of_cover(a: CoverAnswer) -> GulvaneCount
 
 pub fn of_overlay(a: OverlayAnswer) -> GulvaneCount
     ensures { λ x. ⌜ saidCount x ≡ overlaySaid a ⌝ }
+    ensures { λ x. ⌜ BareCount x ⌝ }
 {
     match a {
         OverlayAnswer::Built(c) => GulvaneCount {
@@ -62,6 +66,7 @@ pub fn of_overlay(a: OverlayAnswer) -> GulvaneCount
 
 pub fn of_thin(a: ThinAnswer) -> GulvaneCount
     ensures { λ x. ⌜ saidCount x ≡ thinSaid a ⌝ }
+    ensures { λ x. ⌜ BareCount x ⌝ }
 {
     match a {
         ThinAnswer::Thinned(c) => GulvaneCount {
@@ -74,6 +79,7 @@ pub fn of_thin(a: ThinAnswer) -> GulvaneCount
 
 pub fn of_distance(a: DistanceAnswer) -> GulvaneDistance
     ensures { λ x. ⌜ saidDistance x ≡ pathSaid a ⌝ }
+    ensures { λ x. ⌜ BareDistance x ⌝ }
 {
     match a {
         DistanceAnswer::Way(d) => GulvaneDistance {

@@ -36,7 +36,7 @@ same-length-5 c = search needs
 
 -- src/distances.rt:10:1
 returns : tie.Need-returns
-returns c = rw (c .of-distance .ensures) (c .before .before .before .before .before .before .before .before .before .before .before .handheld .ensures)
+returns c = (rw (c .of-distance .ensures .0) (c .before .before .before .before .before .before .before .before .before .before .before .handheld .ensures), c .of-distance .ensures .1)
 
 pub gulvane-handheld-spec : {M : Type 1} → statement M
 gulvane-handheld-spec =

@@ -20,7 +20,7 @@ same-length c = search needs
 
 -- src/drives.rt:9:1
 returns : tie.Need-returns
-returns c = rw (c .of-thin .ensures) (c .before .before .before .thin .ensures)
+returns c = (rw (c .of-thin .ensures .0) (c .before .before .before .thin .ensures), c .of-thin .ensures .1)
 
 pub gulvane-thin-spec : {M : Type 1} → statement M
 gulvane-thin-spec = tie.close (tie.spec thin-requires of-thin-requires same-length returns)

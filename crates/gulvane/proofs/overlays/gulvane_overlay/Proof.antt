@@ -44,7 +44,7 @@ same-length-7 c = search needs
 
 -- src/overlays.rt:9:1
 returns : tie.Need-returns
-returns c = rw (c .of-overlay .ensures) (c .before .before .before .before .before .before .before .before .before .before .before .before .before .before .before .overlay .ensures)
+returns c = (rw (c .of-overlay .ensures .0) (c .before .before .before .before .before .before .before .before .before .before .before .before .before .before .before .overlay .ensures), c .of-overlay .ensures .1)
 
 pub gulvane-overlay-spec : {M : Type 1} → statement M
 gulvane-overlay-spec =

@@ -44,7 +44,7 @@ same-length-7 c = search needs
 
 -- src/points.rt:10:1
 returns : tie.Need-returns
-returns c = rw (c .of-cover .ensures) (c .before .before .before .before .before .before .before .before .before .before .before .before .before .before .before .cover .ensures)
+returns c = (rw (c .of-cover .ensures .0) (c .before .before .before .before .before .before .before .before .before .before .before .before .before .before .before .cover .ensures), c .of-cover .ensures .1)
 
 pub gulvane-cover-spec : {M : Type 1} → statement M
 gulvane-cover-spec =

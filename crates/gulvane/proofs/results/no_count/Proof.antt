@@ -1,4 +1,4 @@
-use Rattle.gulvane.proofs.Told.{count-refused}
+use Rattle.gulvane.proofs.Told.{count-refused, bare-refused}
 use borrow.Author.Needs.{needs}
 use Rattle.gulvane.proofs.results.no_count.Statement.{statement}
 use Rattle.gulvane.proofs.results.no_count.Tie as tie
@@ -16,7 +16,7 @@ cast-t3 c = search needs
 
 -- src/results.rt:19:1
 returns : tie.Need-returns
-returns c = count-refused (c .before .args .r) _ (c .number .ensures)
+returns c = (count-refused (c .before .args .r) _ (c .number .ensures), bare-refused _)
 
 pub no-count-spec : {M : Type 1} → statement M
 no-count-spec = tie.close (tie.spec number-requires cast-t3 returns)

@@ -1,4 +1,4 @@
-use Rattle.gulvane.proofs.Told.{distance-refused}
+use Rattle.gulvane.proofs.Told.{distance-refused, bare-distance-refused}
 use borrow.Author.Needs.{needs}
 use Rattle.gulvane.proofs.results.no_distance.Statement.{statement}
 use Rattle.gulvane.proofs.results.no_distance.Tie as tie
@@ -16,7 +16,7 @@ cast-t3 c = search needs
 
 -- src/results.rt:29:1
 returns : tie.Need-returns
-returns c = distance-refused (c .before .args .r) _ (c .number .ensures)
+returns c = (distance-refused (c .before .args .r) _ (c .number .ensures), bare-distance-refused _)
 
 pub no-distance-spec : {M : Type 1} → statement M
 no-distance-spec = tie.close (tie.spec number-requires cast-t3 returns)

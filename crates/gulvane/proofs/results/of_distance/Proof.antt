@@ -2,6 +2,7 @@ use mathlib.Core.Path.{_≡_, ap, sym, _∙_}
 use Rattle.distance.specs.Calls.{saidOf}
 use borrow.Author.Needs.{needs}
 use Rattle.gulvane.proofs.results.of_distance.Statement.{statement}
+use Rattle.gulvane.proofs.Told.{bare-way, bare-no-way}
 use Rattle.gulvane.proofs.results.of_distance.Tie as tie
 use Rattle.gulvane.proofs.results.of_distance.Reads as reads
 use Rattle.gulvane.proofs.results.of_distance.Lts as lts
@@ -25,15 +26,15 @@ no-distance-requires c κs = search needs
 
 -- src/results.rt:75:1
 returns : tie.Need-returns
-returns c = sym (ap saidOf (c .before .a .given .1))
+returns c = (sym (ap saidOf (c .before .a .given .1)), bare-way _)
 
 -- src/results.rt:75:1
 returns-2 : tie.Need-returns-2
-returns-2 c = sym (ap saidOf (c .enum-told .given .1))
+returns-2 c = (sym (ap saidOf (c .enum-told .given .1)), bare-no-way)
 
 -- src/results.rt:75:1
 returns-3 : tie.Need-returns-3
-returns-3 c = c .no-distance .ensures ∙ sym (ap saidOf (c .before .before .a2 .given .1))
+returns-3 c = (c .no-distance .ensures .0 ∙ sym (ap saidOf (c .before .before .a2 .given .1)), c .no-distance .ensures .1)
 
 pub of-distance-spec : {M : Type 1} → statement M
 of-distance-spec =

@@ -2,6 +2,7 @@ use mathlib.Core.Path.{_≡_, ap, sym, _∙_}
 use Rattle.overlay.specs.Calls.{saidOf}
 use borrow.Author.Needs.{needs}
 use Rattle.gulvane.proofs.results.of_overlay.Statement.{statement}
+use Rattle.gulvane.proofs.Told.{bare-counted}
 use Rattle.gulvane.proofs.results.of_overlay.Tie as tie
 use Rattle.gulvane.proofs.results.of_overlay.Reads as reads
 use Rattle.gulvane.proofs.results.of_overlay.Lts as lts
@@ -21,11 +22,11 @@ no-count-requires c κs = search needs
 
 -- src/results.rt:51:1
 returns : tie.Need-returns
-returns c = sym (ap saidOf (c .before .a .given .1))
+returns c = (sym (ap saidOf (c .before .a .given .1)), bare-counted _)
 
 -- src/results.rt:51:1
 returns-2 : tie.Need-returns-2
-returns-2 c = c .no-count .ensures ∙ sym (ap saidOf (c .before .before .a2 .given .1))
+returns-2 c = (c .no-count .ensures .0 ∙ sym (ap saidOf (c .before .before .a2 .given .1)), c .no-count .ensures .1)
 
 pub of-overlay-spec : {M : Type 1} → statement M
 of-overlay-spec =
