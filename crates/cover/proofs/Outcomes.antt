@@ -18,7 +18,7 @@ use Rattle.road.specs.Faults.{Permutation, InSet, BadK, graphFaults, kFault, or
 use Rattle.road.specs.Limits.{roadLimits, overlayLimits, mostK}
 use Rattle.road.specs.Refusals.{Fault, First, None, Judged, Judges, Said, refusal, answer}
 use Rattle.road.specs.Roads.{nodesOf, Arc, road, Sound}
-use Rattle.road.specs.Turning.{Roomy, Turned}
+use Rattle.turning.specs.Turning.{Roomy, Turned}
 use Rattle.road.proofs.Faults.{sound-of, sound-wider, road-proper, alike-of, not-over}
 use Rattle.road.proofs.Orders.{permuted}
 use Rattle.road.proofs.Refusals.{judged-alone, stops, goes-on, none-front, unheld}

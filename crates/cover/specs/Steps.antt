@@ -5,7 +5,7 @@ use Prim.Native.Nat.{ℕ, _≤_}
 use lib.ListN.{length, set}
 use Rattle.road.specs.Limits.{overlayLimits, mostK}
 use Rattle.road.specs.Roads.{nodesOf, Sound}
-use Rattle.road.specs.Turning.{Turned}
+use Rattle.turning.specs.Turning.{Turned}
 use Rattle.cover.specs.Rule.{Needed}
 
 -- k passed its check

@@ -9,7 +9,7 @@ use road::check_cover_input;
 use road::clear;
 use road::fill_bytes;
 use road::node_count;
-use road::turn;
+use turning::turn;
 ghost use mathlib.Core.Path.{_≡_};
 ghost use mathlib.Core.List.{[], _∷_};
 ghost use Prim.Native.Nat.{_≤_};

@@ -8,7 +8,7 @@ use Rattle.paths.specs.Graphs.{Graph, Reaches}
 use Rattle.paths.specs.Least.{Told}
 use Rattle.road.specs.Limits.{overlayLimits}
 use Rattle.road.specs.Roads.{nodesOf, road, Sound}
-use Rattle.road.specs.Turning.{Turned}
+use Rattle.turning.specs.Turning.{Turned}
 use Rattle.road.proofs.Faults.{sound-wider}
 use Rattle.search.specs.Rows.{Row, Asks}
 use Rattle.overlay.specs.Overlays.{Outside}

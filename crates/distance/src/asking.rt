@@ -6,7 +6,7 @@ use crate::sums::shown;
 use crate::through::through_overlay;
 use road::clear;
 use road::fill_bytes;
-use road::turn;
+use turning::turn;
 use search::clear_labels;
 use search::search;
 ghost use mathlib.Core.Path.{_≡_};

@@ -7,5 +7,4 @@ pub mod Drives
 pub mod Orders
 pub mod Zeros
 pub mod Counting
-pub mod Turns
 pub mod Verdicts

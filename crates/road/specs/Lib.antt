@@ -7,4 +7,3 @@ pub mod Scans
 pub mod Drives
 pub mod Chains
 pub mod Counting
-pub mod Turning

@@ -1,4 +1,4 @@
-// The road graph as it is lent, its limits, the refusals, every check, and turning a graph round.
+// The road graph as it is lent, its limits, the refusals, and every check.
 //
 // A graph is three slices: n + 1 starts, m heads, m weights. A check looks at what it is lent and
 // changes nothing; it may ask that the checks before it passed. The chains take any input.
@@ -12,7 +12,6 @@ mod lengths;
 mod order;
 mod sets;
 mod starts;
-mod turning;
 
 pub use arcs::check_arcs;
 pub use bounds::check_k;
@@ -39,7 +38,6 @@ pub use sets::check_in_set;
 pub use sets::check_nodes;
 pub use sets::check_set;
 pub use starts::check_starts;
-pub use turning::turn;
 
 // A count of nodes.
 pub struct NodeCount(pub usize);

@@ -5,7 +5,7 @@ use Rattle.distance.proofs.asking.find_rows.Statement.{statement}
 use Rattle.distance.proofs.asking.find_rows.Tie as tie
 use Rattle.distance.proofs.asking.find_rows.Reads as reads
 use Rattle.distance.proofs.asking.find_rows.Lts as lts
-use Rattle.road.proofs.turn.Reads as turn-reads
+use Rattle.turning.proofs.turn.Reads as turn-reads
 use Rattle.search.proofs.search.Reads as search-reads
 
 -- src/asking.rt:94:5

@@ -1,0 +1,2 @@
+-- The laws of turning a graph round.
+pub mod Turns

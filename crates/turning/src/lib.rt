@@ -1,0 +1,4 @@
+// Turning a graph round.
+mod turning;
+
+pub use turning::turn;
