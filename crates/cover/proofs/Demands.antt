@@ -21,10 +21,10 @@ use Rattle.road.proofs.Orders.{permuted}
 use Rattle.road.proofs.Refusals.{of-single, first-one, first-not-none, none-front, number-some, unheld}
 use Rattle.road.proofs.Verdicts.{singles-both, cover-singles}
 use Rattle.cover.specs.Calls.{Areas, Outcome, refused, covered, answered, askedLengths, faultsOf}
-use Rattle.cover.specs.Promise.{Covers, Tight}
-use Rattle.cover.specs.Rule.{PathOf, Pruned}
+use Rattle.rule.specs.Promise.{Covers, Tight}
+use Rattle.rule.specs.Rule.{PathOf, Pruned}
 use Rattle.cover.proofs.Outcomes.{input-sound}
-use Rattle.cover.proofs.Rules.{Nodes, prunes-one, covers, tight, same-paths, all-stay, all-drop}
+use Rattle.rule.proofs.Rules.{Nodes, prunes-one, covers, tight, same-paths, all-stay, all-drop}
 
 -- an outcome that is an answer: nothing was at fault, the cover is the rule's, the count is that of its ones, and the work is zero
 pub record Answer (starts heads weights : List ℕ) (k : ℕ) (order : List ℕ) (before : Areas) (said : Said) (after : Areas) : Type 0 where

@@ -12,7 +12,7 @@ use Rattle.road.specs.Refusals.{None, Said}
 use Rattle.road.specs.Roads.{Arc, road}
 use Rattle.road.proofs.Refusals.{first-not-none}
 use Rattle.cover.specs.Calls.{Areas, Outcome, refused, covered, faultsOf}
-use Rattle.cover.specs.Rule.{PathOf}
+use Rattle.rule.specs.Rule.{PathOf}
 use Rattle.cover.proofs.Demands.{answer-of, every-path, every-point, one-keeps-all}
 
 -- It refuses everything: where nothing is at fault, the outcome is an answer.

@@ -1,12 +1,8 @@
--- The laws of the path under trial, the search, the pieces' sizes, pruning and the call.
-pub mod Trails
-pub mod Searching
-pub mod Halves
-pub mod Completing
+-- The laws of the pieces' sizes, of pruning and of the call.
+pub mod Ready
 pub mod Rows
 pub mod Spreading
 pub mod Sizes
-pub mod Rules
 pub mod Outcomes
 pub mod Demands
 pub mod Forbidden

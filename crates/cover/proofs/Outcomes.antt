@@ -24,7 +24,7 @@ use Rattle.road.proofs.Orders.{permuted}
 use Rattle.road.proofs.Refusals.{judged-alone, stops, goes-on, none-front, unheld}
 use Rattle.cover.specs.Calls.{Areas, Ready, Built, Outcome, refused, covered, answered, askedLengths, faultsOf}
 use Rattle.cover.specs.Pieces.{Kept}
-use Rattle.cover.specs.Rule.{PathOf, Prunes, Pruned}
+use Rattle.rule.specs.Rule.{PathOf, Prunes, Pruned}
 use Rattle.cover.specs.Steps.{OfK, Prunable}
 use Rattle.cover.proofs.Sizes.{pieced-none}
 

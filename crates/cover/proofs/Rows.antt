@@ -6,8 +6,8 @@ use native.Mathlib.Omega.{arith}
 use borrow.Author.Count.{below-more}
 use lib.ListN.{length, getD}
 use Rattle.cover.specs.Pieces.{Row, Below}
-use Rattle.cover.specs.Search.{Searchable}
-use Rattle.cover.proofs.Searching.{row-bounds, place-listed, head-node}
+use Rattle.trails.specs.Search.{Searchable}
+use Rattle.trails.proofs.Searching.{row-bounds, place-listed, head-node}
 
 -- P holds of the heads at the places of v's row below i
 pub record RowTo (starts heads : List ℕ) (v : ℕ) (P : ℕ → Type 0) (end i : ℕ) : Type 0 where

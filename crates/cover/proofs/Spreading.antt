@@ -13,9 +13,9 @@ use lib.Seq.{getD-set-same, getD-set-other}
 use Rattle.paths.specs.Graphs.{Graph, turned}
 use Rattle.road.specs.Counting.{bit, under}
 use Rattle.road.specs.Roads.{road, TurnedRound}
-use Rattle.cover.specs.Rule.{Dropped}
+use Rattle.rule.specs.Rule.{Dropped}
 use Rattle.cover.specs.Pieces.{Row, Raised, Raises, none, more, Waits, Level, Spreads, Grown, Spread}
-use Rattle.cover.proofs.Completing.{joined-of}
+use Rattle.trails.proofs.Completing.{joined-of}
 
 -- a number raised to r is no longer below it
 under-raised : (l : List ℕ) (y r : ℕ) → y < length l → getD l y 0 < r → under r (set l y r) + 1 ≡ under r l

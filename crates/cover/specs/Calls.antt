@@ -12,7 +12,7 @@ use Rattle.road.specs.Refusals.{Fault, First, None, Said, refusal, answer}
 use Rattle.road.specs.Roads.{nodesOf, road, Sound}
 use Rattle.cover.specs.declared.CoverAnswer.{CoverAnswer}
 use Rattle.cover.specs.declared.CoverAnswer.the-variants.{Covered, Refused}
-use Rattle.cover.specs.Rule.{PathOf, Pruned}
+use Rattle.rule.specs.Rule.{PathOf, Pruned}
 use Rattle.cover.specs.Steps.{OfK}
 
 -- the number and the values of each answer: the count of the cover's nodes, or a refusal's number alone

@@ -8,7 +8,7 @@ use Rattle.paths.specs.Graphs.{Graph, turned, IsPath}
 use Rattle.paths.specs.Lists.{Mem, Each}
 use Rattle.road.specs.Counting.{under}
 use Rattle.road.specs.Drives.{Joined}
-use Rattle.cover.specs.Rule.{Dropped}
+use Rattle.rule.specs.Rule.{Dropped}
 
 -- two dropped nodes that a step joins have one size
 pub record Even (G : Graph) (cover sizes : List ℕ) : Type 0 where

@@ -1,15 +1,15 @@
 // The sizes of the pieces that the dropped nodes make: with its neighbours' sizes alone a node may be
 // seen not to be needed. Nothing is searched here.
-use crate::search::larger;
 use road::NodeCount;
 use road::wide;
+use trails::larger;
 ghost use mathlib.Core.Path.{_≡_};
 ghost use Prim.Native.Nat.{_+_, _≤_, _<_};
 ghost use lib.ListN.{length};
 ghost use Rattle.road.specs.Counting.{under};
 ghost use Rattle.road.specs.Roads.{road};
 ghost use Rattle.cover.specs.Pieces.{Below, Fits, Kept, Raised, Raises, Row, Spread, Spreads};
-ghost use Rattle.cover.specs.Search.{Searchable};
+ghost use Rattle.trails.specs.Search.{Searchable};
 ghost use Rattle.cover.specs.Steps.{OfK, Prunable};
 
 // Of p and x the one whose size is larger, where x is dropped; otherwise p.

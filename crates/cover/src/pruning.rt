@@ -1,13 +1,13 @@
 // Pruning: the nodes are taken in the order lent, and each is dropped exactly if it is not needed.
 // Where the sizes of its neighbours' pieces tell that it is not, nothing is searched.
 // The weights are lent so that the contracts can name the graph; no answer depends on them.
-use crate::Trail;
 use crate::pieces::size_for;
 use crate::pieces::spread;
-use crate::search::inward;
-use crate::search::longest;
 use road::NodeCount;
 use road::wide;
+use trails::Trail;
+use trails::inward;
+use trails::longest;
 ghost use mathlib.Core.Path.{_≡_};
 ghost use Prim.Native.Nat.{_≤_, _<_};
 ghost use lib.ListN.{length, set};
@@ -15,8 +15,8 @@ ghost use Rattle.paths.specs.Lists.{Each};
 ghost use Rattle.road.specs.Refusals.{Tells};
 ghost use Rattle.road.specs.Roads.{road};
 ghost use Rattle.cover.specs.Pieces.{Fits, Kept};
-ghost use Rattle.cover.specs.Rule.{Needed, PathOf, Prunes};
-ghost use Rattle.cover.specs.Steps.{OfK, Prunable, Took};
+ghost use Rattle.rule.specs.Rule.{Needed, PathOf, Prunes, Took};
+ghost use Rattle.cover.specs.Steps.{OfK, Prunable};
 
 // Whether v cannot be dropped.
 fn is_needed(

@@ -15,8 +15,8 @@ use Rattle.road.proofs.Faults.{not-over}
 use Rattle.road.proofs.Refusals.{of-single, first-one, first-not-none, none-front, number-some, unheld}
 use Rattle.road.proofs.Verdicts.{singles-both, drive-singles}
 use Rattle.cover.specs.Calls as covering
-use Rattle.cover.specs.Promise.{Covers}
-use Rattle.cover.specs.Rule.{PathOf}
+use Rattle.rule.specs.Promise.{Covers}
+use Rattle.rule.specs.Rule.{PathOf}
 use Rattle.cover.proofs.Demands as covers
 use Rattle.drive.specs.Calls.{Outcome, refused, thinned, faultsOf}
 use Rattle.drive.specs.Promise.{stretch, Includes, KeepsSet}

@@ -16,8 +16,8 @@ use Rattle.road.specs.Roads.{nodesOf, road, Sound}
 use Rattle.road.proofs.Faults.{none-of-sound, set-clear}
 use Rattle.road.proofs.Refusals.{first-not-none, untold}
 use Rattle.road.proofs.Rows.{owner-node}
-use Rattle.cover.specs.Promise.{Covers}
-use Rattle.cover.specs.Rule.{PathOf}
+use Rattle.rule.specs.Promise.{Covers}
+use Rattle.rule.specs.Rule.{PathOf}
 use Rattle.drive.specs.Calls.{Outcome, refused, thinned, faultsOf}
 use Rattle.drive.specs.Promise.{Includes}
 use Rattle.drive.specs.Thinning.{IsDrive, Ascending}

@@ -10,8 +10,8 @@ use Rattle.paths.specs.Graphs.{Along, stop, step}
 use Rattle.paths.specs.Lists.{Mem, Different}
 use Rattle.paths.proofs.Lists.{place-of}
 use Rattle.road.specs.Roads.{Arc, road}
-use Rattle.cover.specs.Promise.{Covers}
-use Rattle.cover.specs.Rule.{PathOf}
+use Rattle.rule.specs.Promise.{Covers}
+use Rattle.rule.specs.Rule.{PathOf}
 use Rattle.drive.specs.Promise.{stretch, Includes, KeepsSet}
 use Rattle.drive.specs.Thinning.{IsDrive}
 

@@ -16,8 +16,8 @@ use Rattle.road.specs.Refusals.{First, None, Singles, Fault}
 use Rattle.road.specs.Roads.{nodesOf, road}
 use Rattle.road.proofs.Refusals.{first-one, first-not-none, of-single, unheld}
 use Rattle.road.proofs.Verdicts.{cover-singles, road-and-set-singles, drive-singles, singles-both}
-use Rattle.cover.specs.Rule.{PathOf, Pruned}
-use Rattle.cover.proofs.Rules.{prunes-one}
+use Rattle.rule.specs.Rule.{PathOf, Pruned}
+use Rattle.rule.proofs.Rules.{prunes-one}
 use Rattle.overlay.specs.Calls.{TooMany}
 use Rattle.overlay.specs.Lent.{overlayFault}
 use Rattle.overlay.specs.Overlays.{OverlayOf}

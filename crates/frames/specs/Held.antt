@@ -8,7 +8,7 @@ use Rattle.road.specs.Chains.{coverFaults}
 use Rattle.road.specs.Counting.{times}
 use Rattle.road.specs.Refusals.{None}
 use Rattle.road.specs.Roads.{nodesOf, road}
-use Rattle.cover.specs.Rule.{PathOf, Pruned}
+use Rattle.rule.specs.Rule.{PathOf, Pruned}
 use Rattle.hexlines.specs.Outputs.{Out, textOf}
 use Rattle.hexlines.specs.Writers.{Wrote}
 use Rattle.maps.specs.Lists.{belows, numbers}

@@ -10,7 +10,7 @@ use Rattle.road.specs.Chains.{coverFaults, roadAndSetFaults, driveFaults}
 use Rattle.road.specs.Counting.{times}
 use Rattle.road.specs.Refusals.{First, None, numberOf}
 use Rattle.road.specs.Roads.{nodesOf, road}
-use Rattle.cover.specs.Rule.{PathOf, Pruned}
+use Rattle.rule.specs.Rule.{PathOf, Pruned}
 use Rattle.overlay.specs.Calls.{TooMany}
 use Rattle.overlay.specs.Overlays.{OverlayOf}
 use Rattle.distance.specs.Calls.{pairInput}

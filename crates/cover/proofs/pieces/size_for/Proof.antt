@@ -1,6 +1,6 @@
 use mathlib.Core.Path.{refl}
 use Rattle.cover.proofs.Sizes.{most-fits, two-fit}
-use Rattle.cover.proofs.Searching.{search-forth, search-back}
+use Rattle.cover.proofs.Ready.{search-forth, search-back}
 use Prim.Native.Nat.{_-_}
 use native.Mathlib.Omega.{arith}
 use borrow.Author.Needs.{needs}

@@ -1,5 +1,5 @@
 use Rattle.cover.proofs.Spreading.{Spreading, spreading-none, spreading-place, spreading-node, spreading-more, spreading-end, raises-long, room-after}
-use Rattle.cover.proofs.Searching.{search-forth, search-back}
+use Rattle.cover.proofs.Ready.{search-forth, search-back}
 use Rattle.road.specs.Roads.{road}
 use mathlib.Core.Path.{sym, _∙_}
 use borrow.Author.Needs.{needs, scaled-fits}

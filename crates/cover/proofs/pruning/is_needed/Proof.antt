@@ -1,6 +1,7 @@
-use Rattle.cover.proofs.Completing.{needed-told}
-use Rattle.cover.proofs.Searching.{search-forth, search-back, within-of}
-use Rattle.cover.specs.Search.{ends}
+use Rattle.trails.proofs.Completing.{needed-told}
+use Rattle.trails.proofs.Searching.{within-of}
+use Rattle.cover.proofs.Ready.{search-forth, search-back}
+use Rattle.trails.specs.Search.{ends}
 use Rattle.road.proofs.Refusals.{tells-yes}
 use native.Mathlib.Omega.{arith}
 use borrow.Author.Needs.{needs}

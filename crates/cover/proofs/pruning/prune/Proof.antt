@@ -2,10 +2,10 @@ use Prim.Native.Nat.{_-_}
 use native.Mathlib.Omega.{arith}
 use lib.ListN.{length}
 use Rattle.road.specs.Roads.{road}
-use Rattle.cover.specs.Rule.{PathOf}
+use Rattle.rule.specs.Rule.{PathOf}
 use Rattle.cover.specs.Pieces.{Kept}
-use Rattle.cover.proofs.Rules.{Going, going-start, going-on, going-end}
-use Rattle.cover.proofs.Searching.{prunable-still, node-at}
+use Rattle.rule.proofs.Rules.{Going, going-start, going-on, going-end}
+use Rattle.cover.proofs.Ready.{prunable-still, node-at}
 use borrow.Author.Needs.{needs}
 use Rattle.cover.proofs.pruning.prune.Statement.{statement}
 use Rattle.cover.proofs.pruning.prune.Tie as tie

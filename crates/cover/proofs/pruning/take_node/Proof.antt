@@ -1,4 +1,4 @@
-use Rattle.cover.specs.Steps.{kept, dropped}
+use Rattle.rule.specs.Rule.{kept, dropped}
 use mathlib.Core.Path.{refl}
 use borrow.Author.Needs.{needs}
 use Rattle.cover.proofs.pruning.take_node.Statement.{statement}

@@ -1,0 +1,3 @@
+-- The pruning rule, and what a cover promises.
+pub mod Rule
+pub mod Promise

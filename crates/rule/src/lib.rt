@@ -1,0 +1,1 @@
+// No code: the pruning rule and what a cover promises, in specs/ and proofs/.
