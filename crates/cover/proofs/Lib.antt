@@ -1,8 +1,4 @@
--- The laws of the pieces' sizes, of pruning and of the call.
-pub mod Ready
-pub mod Rows
-pub mod Spreading
-pub mod Sizes
+-- The laws of the cover call.
 pub mod Outcomes
 pub mod Demands
 pub mod Forbidden

@@ -23,10 +23,10 @@ use Rattle.road.proofs.Faults.{sound-of, sound-wider, road-proper, alike-of, no
 use Rattle.road.proofs.Orders.{permuted}
 use Rattle.road.proofs.Refusals.{judged-alone, stops, goes-on, none-front, unheld}
 use Rattle.cover.specs.Calls.{Areas, Ready, Built, Outcome, refused, covered, answered, askedLengths, faultsOf}
-use Rattle.cover.specs.Pieces.{Kept}
+use Rattle.pieces.specs.Pieces.{Kept}
 use Rattle.rule.specs.Rule.{PathOf, Prunes, Pruned}
-use Rattle.cover.specs.Steps.{OfK, Prunable}
-use Rattle.cover.proofs.Sizes.{pieced-none}
+use Rattle.pieces.specs.Steps.{OfK, Prunable}
+use Rattle.pieces.proofs.Bounding.{pieced-none}
 
 module _ (starts heads weights : List ℕ) (k : ℕ) (order : List ℕ) (a : Areas) (r : Ready starts heads weights k order a) where
   wide-sound : Sound overlayLimits starts heads weights

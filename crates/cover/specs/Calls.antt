@@ -13,7 +13,7 @@ use Rattle.road.specs.Roads.{nodesOf, road, Sound}
 use Rattle.cover.specs.declared.CoverAnswer.{CoverAnswer}
 use Rattle.cover.specs.declared.CoverAnswer.the-variants.{Covered, Refused}
 use Rattle.rule.specs.Rule.{PathOf, Pruned}
-use Rattle.cover.specs.Steps.{OfK}
+use Rattle.pieces.specs.Steps.{OfK}
 
 -- the number and the values of each answer: the count of the cover's nodes, or a refusal's number alone
 abbrev pub saidOf : CoverAnswer → Said

@@ -1,4 +1,2 @@
--- The pieces' sizes, pruning on its way, and the call.
-pub mod Pieces
-pub mod Steps
+-- The cover call.
 pub mod Calls

@@ -1,6 +1,5 @@
-// The cover: the pieces' sizes, pruning, and the call that picks the points.
+// The cover: pruning, and the call that picks the points.
 mod calls;
-mod pieces;
 mod pruning;
 
 pub use calls::cover;

@@ -1,8 +1,8 @@
 // Pruning: the nodes are taken in the order lent, and each is dropped exactly if it is not needed.
 // Where the sizes of its neighbours' pieces tell that it is not, nothing is searched.
 // The weights are lent so that the contracts can name the graph; no answer depends on them.
-use crate::pieces::size_for;
-use crate::pieces::spread;
+use pieces::size_for;
+use pieces::spread;
 use road::NodeCount;
 use road::wide;
 use trails::Trail;
@@ -14,9 +14,9 @@ ghost use lib.ListN.{length, set};
 ghost use Rattle.paths.specs.Lists.{Each};
 ghost use Rattle.road.specs.Refusals.{Tells};
 ghost use Rattle.road.specs.Roads.{road};
-ghost use Rattle.cover.specs.Pieces.{Fits, Kept};
+ghost use Rattle.pieces.specs.Pieces.{Fits, Kept};
 ghost use Rattle.rule.specs.Rule.{Needed, PathOf, Prunes, Took};
-ghost use Rattle.cover.specs.Steps.{OfK, Prunable};
+ghost use Rattle.pieces.specs.Steps.{OfK, Prunable};
 
 // Whether v cannot be dropped.
 fn is_needed(

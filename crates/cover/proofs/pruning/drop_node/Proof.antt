@@ -1,5 +1,5 @@
 use native.Mathlib.Omega.{arith}
-use Rattle.cover.proofs.Sizes.{still-prunable, drop-spreads, drop-keeps}
+use Rattle.pieces.proofs.Bounding.{still-prunable, drop-spreads, drop-keeps}
 use lib.ListN.{set, length-set}
 use Prim.Native.Nat.{ℕ}
 use mathlib.Core.Path.{refl, ap, _∙_}

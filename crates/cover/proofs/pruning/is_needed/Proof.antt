@@ -1,6 +1,6 @@
 use Rattle.trails.proofs.Completing.{needed-told}
 use Rattle.trails.proofs.Searching.{within-of}
-use Rattle.cover.proofs.Ready.{search-forth, search-back}
+use Rattle.pieces.proofs.Ready.{search-forth, search-back}
 use Rattle.trails.specs.Search.{ends}
 use Rattle.road.proofs.Refusals.{tells-yes}
 use native.Mathlib.Omega.{arith}

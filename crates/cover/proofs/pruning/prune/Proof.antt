@@ -3,9 +3,9 @@ use native.Mathlib.Omega.{arith}
 use lib.ListN.{length}
 use Rattle.road.specs.Roads.{road}
 use Rattle.rule.specs.Rule.{PathOf}
-use Rattle.cover.specs.Pieces.{Kept}
+use Rattle.pieces.specs.Pieces.{Kept}
 use Rattle.rule.proofs.Rules.{Going, going-start, going-on, going-end}
-use Rattle.cover.proofs.Ready.{prunable-still, node-at}
+use Rattle.pieces.proofs.Ready.{prunable-still, node-at}
 use borrow.Author.Needs.{needs}
 use Rattle.cover.proofs.pruning.prune.Statement.{statement}
 use Rattle.cover.proofs.pruning.prune.Tie as tie

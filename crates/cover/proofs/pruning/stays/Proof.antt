@@ -1,4 +1,4 @@
-use Rattle.cover.proofs.Sizes.{fits-unneeded}
+use Rattle.pieces.proofs.Bounding.{fits-unneeded}
 use Rattle.road.proofs.Refusals.{tells-no}
 use borrow.Author.Needs.{needs}
 use Rattle.cover.proofs.pruning.stays.Statement.{statement}

@@ -1,13 +1,13 @@
-use Rattle.cover.proofs.Spreading.{Spreading, spreading-none, spreading-place, spreading-node, spreading-more, spreading-end, raises-long, room-after}
-use Rattle.cover.proofs.Ready.{search-forth, search-back}
+use Rattle.pieces.proofs.Spreading.{Spreading, spreading-none, spreading-place, spreading-node, spreading-more, spreading-end, raises-long, room-after}
+use Rattle.pieces.proofs.Ready.{search-forth, search-back}
 use Rattle.road.specs.Roads.{road}
 use mathlib.Core.Path.{sym, _∙_}
 use borrow.Author.Needs.{needs, scaled-fits}
 use lib.ListN.{length}
 use Prim.Native.Nat.{_-_}
 use native.Mathlib.Omega.{arith}
-use Rattle.cover.proofs.pieces.spread.Statement.{statement}
-use Rattle.cover.proofs.pieces.spread.Tie as tie
+use Rattle.pieces.proofs.sizes.spread.Statement.{statement}
+use Rattle.pieces.proofs.sizes.spread.Tie as tie
 
 abbrev Inv-loop : tie.InvT-loop
 Inv-loop starts heads weights starts-back heads-back weights-back cover pieces₀ sizes₀ r i₀ count₀ pieces sizes i count = Spreading (road starts heads weights) cover r sizes₀ sizes pieces i count

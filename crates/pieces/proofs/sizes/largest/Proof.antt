@@ -1,9 +1,9 @@
-use Rattle.cover.proofs.Rows.{RowTo, row-none, row-listed, row-node, row-more, row-end, below-more-of}
-use Rattle.cover.specs.Pieces.{Below}
+use Rattle.pieces.proofs.Rows.{RowTo, row-none, row-listed, row-node, row-more, row-end, below-more-of}
+use Rattle.pieces.specs.Pieces.{Below}
 use Prim.Native.Nat.{_-_}
 use borrow.Author.Needs.{needs, scaled-fits}
-use Rattle.cover.proofs.pieces.largest.Statement.{statement}
-use Rattle.cover.proofs.pieces.largest.Tie as tie
+use Rattle.pieces.proofs.sizes.largest.Statement.{statement}
+use Rattle.pieces.proofs.sizes.largest.Tie as tie
 
 abbrev Inv-loop : tie.InvT-loop
 Inv-loop starts heads cover sizes v but end i₀ best₀ i best = RowTo starts heads v (Below cover sizes but best) end i

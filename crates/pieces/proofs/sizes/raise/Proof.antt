@@ -1,12 +1,12 @@
 use lib.ListN.{getD}
 use Prim.Native.Nat.{ℕ}
 use mathlib.Core.Path.{ap}
-use Rattle.cover.proofs.Spreading.{push-room, raises-one, raised-one}
-use Rattle.cover.specs.Pieces.{none}
+use Rattle.pieces.proofs.Spreading.{push-room, raises-one, raised-one}
+use Rattle.pieces.specs.Pieces.{none}
 use native.Mathlib.Omega.{arith}
 use borrow.Author.Needs.{needs}
-use Rattle.cover.proofs.pieces.raise.Statement.{statement}
-use Rattle.cover.proofs.pieces.raise.Tie as tie
+use Rattle.pieces.proofs.sizes.raise.Statement.{statement}
+use Rattle.pieces.proofs.sizes.raise.Tie as tie
 
 wide-requires : tie.Need-wide-requires
 wide-requires c κs = search needs

@@ -1,10 +1,10 @@
-use Rattle.cover.proofs.Rows.{RowTo, row-none, row-listed, row-node, row-more}
+use Rattle.pieces.proofs.Rows.{RowTo, row-none, row-listed, row-node, row-more}
 use Rattle.paths.specs.Graphs.{Any}
 use lib.ListN.{length}
 use Prim.Native.Nat.{_-_, _<_}
 use borrow.Author.Needs.{needs, scaled-fits}
-use Rattle.cover.proofs.pieces.top.Statement.{statement}
-use Rattle.cover.proofs.pieces.top.Tie as tie
+use Rattle.pieces.proofs.sizes.top.Statement.{statement}
+use Rattle.pieces.proofs.sizes.top.Tie as tie
 
 abbrev Inv-loop : tie.InvT-loop
 Inv-loop starts heads cover sizes v p end i₀ best₀ i best = (best < length cover) × RowTo starts heads v Any end i

@@ -1,11 +1,11 @@
 use mathlib.Core.Path.{_∙_}
 use borrow.Author.Needs.{needs, scaled-fits}
-use Rattle.cover.proofs.Spreading.{raises-long, room-after, raises-then, raises-grown, raised-still}
-use Rattle.cover.proofs.Rows.{RowTo, row-none, row-listed, row-node, row-more, row-end}
-use Rattle.cover.specs.Pieces.{Raises, none, Raised}
+use Rattle.pieces.proofs.Spreading.{raises-long, room-after, raises-then, raises-grown, raised-still}
+use Rattle.pieces.proofs.Rows.{RowTo, row-none, row-listed, row-node, row-more, row-end}
+use Rattle.pieces.specs.Pieces.{Raises, none, Raised}
 use Prim.Native.Nat.{_-_}
-use Rattle.cover.proofs.pieces.raise_row.Statement.{statement}
-use Rattle.cover.proofs.pieces.raise_row.Tie as tie
+use Rattle.pieces.proofs.sizes.raise_row.Statement.{statement}
+use Rattle.pieces.proofs.sizes.raise_row.Tie as tie
 
 abbrev Inv-loop : tie.InvT-loop
 Inv-loop starts heads cover pieces₀ sizes₀ waiting r x end i₀ count₀ pieces sizes i count = (Raises r sizes₀ pieces₀ waiting sizes pieces count) × RowTo starts heads x (Raised cover sizes r) end i

@@ -14,7 +14,7 @@ use Rattle.paths.specs.Graphs.{Graph, turned}
 use Rattle.road.specs.Counting.{bit, under}
 use Rattle.road.specs.Roads.{road, TurnedRound}
 use Rattle.rule.specs.Rule.{Dropped}
-use Rattle.cover.specs.Pieces.{Row, Raised, Raises, none, more, Waits, Level, Spreads, Grown, Spread}
+use Rattle.pieces.specs.Pieces.{Row, Raised, Raises, none, more, Waits, Level, Spreads, Grown, Spread}
 use Rattle.trails.proofs.Completing.{joined-of}
 
 -- a number raised to r is no longer below it

@@ -1,11 +1,11 @@
 use mathlib.Core.Path.{refl}
-use Rattle.cover.proofs.Sizes.{most-fits, two-fit}
-use Rattle.cover.proofs.Ready.{search-forth, search-back}
+use Rattle.pieces.proofs.Bounding.{most-fits, two-fit}
+use Rattle.pieces.proofs.Ready.{search-forth, search-back}
 use Prim.Native.Nat.{_-_}
 use native.Mathlib.Omega.{arith}
 use borrow.Author.Needs.{needs}
-use Rattle.cover.proofs.pieces.size_for.Statement.{statement}
-use Rattle.cover.proofs.pieces.size_for.Tie as tie
+use Rattle.pieces.proofs.sizes.size_for.Statement.{statement}
+use Rattle.pieces.proofs.sizes.size_for.Tie as tie
 
 wide-requires : tie.Need-wide-requires
 wide-requires c κs = search needs

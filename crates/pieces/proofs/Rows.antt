@@ -5,7 +5,7 @@ use Prim.Native.Nat.{ℕ, _+_, _≤_, _<_}
 use native.Mathlib.Omega.{arith}
 use borrow.Author.Count.{below-more}
 use lib.ListN.{length, getD}
-use Rattle.cover.specs.Pieces.{Row, Below}
+use Rattle.pieces.specs.Pieces.{Row, Below}
 use Rattle.trails.specs.Search.{Searchable}
 use Rattle.trails.proofs.Searching.{row-bounds, place-listed, head-node}
 

@@ -15,13 +15,13 @@ use Rattle.road.specs.Limits.{overlayLimits}
 use Rattle.road.specs.Roads.{road}
 use Rattle.road.proofs.Faults.{road-proper}
 use Rattle.rule.specs.Rule.{Dropped, Needed, PathOf}
-use Rattle.cover.specs.Pieces.{Even, Pieced, Kept, Near, Fits, Row, Below, Waits, Level, Spreads, Spread}
+use Rattle.pieces.specs.Pieces.{Even, Pieced, Kept, Near, Fits, Row, Below, Waits, Level, Spreads, Spread}
 use Rattle.trails.specs.Search.{Larger}
-use Rattle.cover.specs.Steps.{Prunable}
+use Rattle.pieces.specs.Steps.{Prunable}
 use Rattle.trails.proofs.Completing.{joined-of}
 use Rattle.trails.proofs.Halves.{Halves, halves, halves-free}
-use Rattle.cover.proofs.Ready.{prunable-still}
-use Rattle.cover.proofs.Spreading.{room-for-one}
+use Rattle.pieces.proofs.Ready.{prunable-still}
+use Rattle.pieces.proofs.Spreading.{room-for-one}
 
 -- Along a path of dropped nodes all sizes are the first one's.
 pub even-along :

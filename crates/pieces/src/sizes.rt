@@ -8,9 +8,9 @@ ghost use Prim.Native.Nat.{_+_, _≤_, _<_};
 ghost use lib.ListN.{length};
 ghost use Rattle.road.specs.Counting.{under};
 ghost use Rattle.road.specs.Roads.{road};
-ghost use Rattle.cover.specs.Pieces.{Below, Fits, Kept, Raised, Raises, Row, Spread, Spreads};
+ghost use Rattle.pieces.specs.Pieces.{Below, Fits, Kept, Raised, Raises, Row, Spread, Spreads};
 ghost use Rattle.trails.specs.Search.{Searchable};
-ghost use Rattle.cover.specs.Steps.{OfK, Prunable};
+ghost use Rattle.pieces.specs.Steps.{OfK, Prunable};
 
 // Of p and x the one whose size is larger, where x is dropped; otherwise p.
 fn above(cover: &[u8], sizes: &[u32], p: u32, x: u32) -> u32

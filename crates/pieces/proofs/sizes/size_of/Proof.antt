@@ -3,8 +3,8 @@ use Prim.Native.Nat.{ℕ}
 use mathlib.Core.Path.{ap}
 use native.Mathlib.Omega.{arith}
 use borrow.Author.Needs.{needs}
-use Rattle.cover.proofs.pieces.size_of.Statement.{statement}
-use Rattle.cover.proofs.pieces.size_of.Tie as tie
+use Rattle.pieces.proofs.sizes.size_of.Statement.{statement}
+use Rattle.pieces.proofs.sizes.size_of.Tie as tie
 
 wide-requires : tie.Need-wide-requires
 wide-requires c κs = search needs

@@ -1,0 +1,3 @@
+-- The pieces' sizes, and what pruning is lent.
+pub mod Pieces
+pub mod Steps
