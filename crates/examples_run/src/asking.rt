@@ -17,37 +17,6 @@ fn at_most_8(asked: usize) -> usize
     asked
 }
 
-fn ask_cover(
-    starts: &[u32],
-    heads: &[u32],
-    weights: &[u32],
-    k: usize,
-    order: &[u32],
-    chosen: &mut [u8],
-    starts_back: &mut [u32],
-    heads_back: &mut [u32],
-    weights_back: &mut [u32],
-    marks: &mut [u8],
-    pieces: &mut [u32],
-    sizes: &mut [u32],
-) {
-    let said = cover::cover(
-        starts,
-        heads,
-        weights,
-        NodeCount(k),
-        order,
-        chosen,
-        starts_back,
-        heads_back,
-        weights_back,
-        marks,
-        pieces,
-        sizes,
-    );
-    tell_cover(said, chosen);
-}
-
 // The cover of a graph of at most 7 nodes and 8 arcs.
 pub fn cover(
     label: &[u8],
@@ -60,14 +29,15 @@ pub fn cover(
     let n = at_most_8(road::node_count(starts).0);
     let s = at_most_8(starts.len());
     let m = at_most_8(heads.len());
+    let mut chosen = [7; 8];
     io::write_all(1, label);
-    ask_cover(
+    let said = cover::cover(
         starts,
         heads,
         weights,
-        k,
+        NodeCount(k),
         order,
-        &mut [7; 8][0..n],
+        &mut chosen[0..n],
         &mut [7; 8][0..s],
         &mut [7; 8][0..m],
         &mut [7; 8][0..m],
@@ -75,6 +45,7 @@ pub fn cover(
         &mut [7; 8][0..n],
         &mut [7; 8][0..n],
     );
+    tell_cover(said, &chosen, n);
 }
 
 // The overlay of a set in a graph of 3 nodes, in rooms for no arc.

@@ -4,6 +4,7 @@ use distance::DistanceAnswer;
 use drive::ThinAnswer;
 use overlay::OverlayAnswer;
 use road::Refusal;
+ghost use Prim.Native.Nat.{_≤_};
 
 fn number(label: &[u8], n: u64) {
     io::write_all(1, label);
@@ -18,20 +19,24 @@ fn byte(x: u8) {
     number(b" ", x as u64);
 }
 
-fn bytes(s: &[u8]) {
+fn bytes(s: &[u8; 8], end: usize)
+    requires { ⌜ end ≤ 8 ⌝ }
+{
     let mut i = 0;
-    while i < s.len() {
+    while i < end {
         byte(s[i]);
         i += 1;
     }
 }
 
-// A byte for each node, 1 in the cover, and how many are.
-pub fn tell_cover(said: CoverAnswer, chosen: &[u8]) {
+// A byte for each of the n nodes, 1 in the cover, and how many are.
+pub fn tell_cover(said: CoverAnswer, chosen: &[u8; 8], n: usize)
+    requires { ⌜ n ≤ 8 ⌝ }
+{
     match said {
         CoverAnswer::Covered(count) => {
             io::write_all(1, b" cover");
-            bytes(chosen);
+            bytes(chosen, n);
             number(b" count ", count.0 as u64);
         }
         CoverAnswer::Refused(why) => {
