@@ -1,5 +1,4 @@
 -- P1 to P12 hold, by computing their tests.
-use mathlib.Core.Path.{_≡_}
 use mathlib.Core.List.{List, [], _∷_}
 use Prim.Native.Nat.{ℕ}
 use Rattle.road.specs.Chains.{coverFaults, roadAndSetFaults, driveFaults}

@@ -1,11 +1,11 @@
 -- What the any-pair question says.
-use mathlib.Core.Path.{_≡_, refl, ap, sym, subst}
+use mathlib.Core.Path.{_≡_, refl, ap, subst}
 use mathlib.Core.Logic.{_⊎_, inl, inr}
 use mathlib.Core.List.{List, _∷_}
 use Prim.Native.Nat.{ℕ, _+_, _<_}
 use native.Mathlib.Omega.{arith}
 use lib.ListN.{length}
-use Rattle.paths.specs.Graphs.{Graph, IsPath, Reaches, Any}
+use Rattle.paths.specs.Graphs.{IsPath, Reaches, Any}
 use Rattle.paths.specs.Lists.{Mem}
 use Rattle.road.specs.Faults.{InSet}
 use Rattle.road.specs.Refusals.{Said}

@@ -1,9 +1,9 @@
 -- The pruning rule as a function: the cover that it yields, and no other.
-use mathlib.Core.Path.{_≡_, refl, sym, subst, _∙_}
+use mathlib.Core.Path.{_≡_, refl, subst}
 use mathlib.Core.Bool.{Bool, true, false}
 use mathlib.Core.Logic.{_≢_}
 use mathlib.Core.List.{List, [], _∷_}
-use Prim.Native.Nat.{ℕ, _<_}
+use Prim.Native.Nat.{ℕ}
 use lib.ListN.{length, getD, set, replicate}
 use Rattle.paths.specs.Lists.{Mem}
 use Rattle.road.specs.Refusals.{Tells}

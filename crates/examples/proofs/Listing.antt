@@ -1,13 +1,12 @@
 -- Sets of numbers that are listed: the list has the numbers of the set, and no others. So the least is found by looking.
-use mathlib.Core.Path.{_≡_, refl, sym, ap, subst, _∙_}
+use mathlib.Core.Path.{_≡_, refl, sym, ap, subst}
 use mathlib.Core.Bool.{Bool, true, false}
 use mathlib.Core.Logic.{_⊎_, inl, inr, ⊎-elim}
 use mathlib.Core.List.{List, [], _∷_, _++_}
-use Prim.Native.Nat.{ℕ, zero, suc, _+_, _≤_, _<_}
-use native.Mathlib.Decide.{decLe}
+use Prim.Native.Nat.{ℕ, zero, suc, _+_, _≤_}
 use native.Mathlib.Omega.{arith}
 use lib.Dec.{leb}
-use Rattle.paths.specs.Least.{Least, Empty, Told}
+use Rattle.paths.specs.Least.{Least, Told}
 use Rattle.paths.specs.Lists.{Mem}
 use Rattle.paths.proofs.Least.{told-carries}
 use Rattle.paths.proofs.Lists.{mem-left, mem-right, mem-cases}

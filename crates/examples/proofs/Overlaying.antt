@@ -1,13 +1,10 @@
 -- Whether three lists are the overlay of a set.
 use mathlib.Core.Path.{_≡_}
-use mathlib.Core.Logic.{_≢_}
 use mathlib.Core.List.{List}
-use Prim.Native.Nat.{ℕ, _+_, _-_, _≤_, _<_}
+use Prim.Native.Nat.{ℕ, _+_, _≤_, _<_}
 use native.Mathlib.Omega.{arith}
 use lib.ListN.{length, getD}
-use Rattle.paths.specs.Graphs.{Graph, Reaches}
-use Rattle.paths.specs.Least.{Least}
-use Rattle.road.specs.Faults.{InSet}
+use Rattle.paths.specs.Graphs.{Reaches}
 use Rattle.road.specs.Roads.{nodesOf, road}
 use Rattle.overlay.specs.Overlays.{Outside, OverlayArc, HasArc, RowAt, OverlayOf}
 use Rattle.overlay.proofs.Locals.{in-bytes}

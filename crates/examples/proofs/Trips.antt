@@ -1,12 +1,12 @@
 -- The paths of a graph that leave a node, listed by their weights. From each node every arc is tried that does not lead back, so a path
 -- of different nodes is met once; there is no need for more arcs than the graph has heads.
-use mathlib.Core.Path.{_≡_, refl, sym, ap, subst, _∙_}
+use mathlib.Core.Path.{_≡_, refl, sym, subst, _∙_}
 use mathlib.Core.Logic.{_⊎_, inl, inr, ⊎-elim}
 use mathlib.Core.List.{List, [], _∷_}
 use Prim.Native.Nat.{ℕ, zero, suc, _+_, _≤_, _<_}
 use native.Mathlib.Omega.{arith}
 use lib.ListN.{length, getD}
-use Rattle.paths.specs.Graphs.{Graph, Along, stop, step, IsPath, Reaches}
+use Rattle.paths.specs.Graphs.{Along, stop, step, IsPath, Reaches}
 use Rattle.paths.specs.Lists.{Mem, Different, Each, Inside}
 use Rattle.paths.proofs.Lists.{each-mem, mem-each, mem-at, at-most}
 use Rattle.paths.proofs.Ways.{weighing}

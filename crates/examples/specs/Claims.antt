@@ -1,6 +1,6 @@
 -- What an example claims, in the definitions that the calls' contracts cite.
 use mathlib.Core.Path.{_≡_}
-use mathlib.Core.List.{List, [], _∷_}
+use mathlib.Core.List.{List}
 use Prim.Native.Nat.{ℕ}
 use Rattle.road.specs.declared.Refusal.{Refusal}
 use Rattle.road.specs.Chains.{coverFaults, roadAndSetFaults, driveFaults}

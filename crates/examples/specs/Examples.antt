@@ -26,12 +26,13 @@ way d = answer (1 ∷ d ∷ [])
 abbrev pub noWay : Said
 noWay = answer (0 ∷ [])
 
--- Nodes 0 to 4 in ascending order; covers and sets are a byte for each node.
+-- the nodes of Line in ascending order
 abbrev pub ascending : List ℕ
 ascending = 0 ∷ 1 ∷ 2 ∷ 3 ∷ 4 ∷ []
 
-abbrev pub two : List ℕ
-two = 0 ∷ 0 ∷ 1 ∷ []
+-- the set {2} of three nodes. A set, like a cover, is a byte for each node.
+abbrev pub onlyTwo : List ℕ
+onlyTwo = 0 ∷ 0 ∷ 1 ∷ []
 
 abbrev pub p1 : Example
 p1 = record { graph = oneNode; claims = cover 1 (0 ∷ []) (1 ∷ []) 1 ∷ [] }
@@ -58,16 +59,16 @@ abbrev pub p8 : Example
 p8 = record { graph = bothWays; claims = cover 3 (0 ∷ 1 ∷ []) (0 ∷ 0 ∷ []) 0 ∷ [] }
 
 abbrev pub p9 : Example
-p9 = record { graph = ring; claims = cover 3 (0 ∷ 1 ∷ 2 ∷ []) two 1 ∷ overlay two noArc ∷ [] }
+p9 = record { graph = ring; claims = cover 3 (0 ∷ 1 ∷ 2 ∷ []) onlyTwo 1 ∷ overlay onlyTwo noArc ∷ [] }
 
 abbrev pub p10 : Example
-p10 = record { graph = ring; claims = distance two noArc 1 0 (way 6) ∷ [] }
+p10 = record { graph = ring; claims = distance onlyTwo noArc 1 0 (way 6) ∷ [] }
 
 abbrev pub p11 : Example
-p11 = record { graph = wedge; claims = distance two noArc 0 1 (way 7) ∷ distance two noArc 1 0 noWay ∷ [] }
+p11 = record { graph = wedge; claims = distance onlyTwo noArc 0 1 (way 7) ∷ distance onlyTwo noArc 1 0 noWay ∷ [] }
 
 abbrev pub p12 : Example
-p12 = record { graph = ring; claims = refused-drive two (2 ∷ 1 ∷ []) 10 ∷ [] }
+p12 = record { graph = ring; claims = refused-drive onlyTwo (2 ∷ 1 ∷ []) 10 ∷ [] }
 
 abbrev pub examples : List Example
 examples = p1 ∷ p2 ∷ p3 ∷ p4 ∷ p5 ∷ p6 ∷ p7 ∷ p8 ∷ p9 ∷ p10 ∷ p11 ∷ p12 ∷ []
