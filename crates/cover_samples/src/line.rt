@@ -1,7 +1,7 @@
 // Line: 0 to 4, each joined to the next both ways; and such a line of 40 nodes.
 use crate::samples::sample;
 
-fn line(label: &[u8], k: usize, order: [u32; 5], long: u8, watched: bool) {
+fn line(label: &[u8], k: usize, order: [u32; 5], long: u8) {
     sample(
         label,
         &[0, 1, 3, 5, 7, 8],
@@ -10,38 +10,24 @@ fn line(label: &[u8], k: usize, order: [u32; 5], long: u8, watched: bool) {
         k,
         &order,
         long,
-        watched,
     );
-}
-
-fn plain(label: &[u8], k: usize) {
-    line(label, k, [0, 1, 2, 3, 4], 0, false);
-}
-
-pub fn samples() {
-    plain(b"P3", 2);
-    line(b"P4", 2, [1, 3, 0, 2, 4], 0, false);
-    plain(b"P5", 3);
-    plain(b"P6", 5);
-    plain(b"P7", 6);
 }
 
 // The cover goes by nodes alone, so no weight changes it.
 pub fn other_weights() {
     sample(
-        b"P5, other weights:",
+        b"k 3, other weights:",
         &[0, 1, 3, 5, 7, 8],
         &[1, 0, 2, 1, 3, 2, 4, 3],
         &[1000000, 0, 0, 1000000, 3, 1, 0, 0],
         3,
         &[0, 1, 2, 3, 4],
         0,
-        false,
     );
 }
 
 fn edge(label: &[u8], k: usize, long: u8) {
-    line(label, k, [0, 1, 2, 3, 4], long, true);
+    line(label, k, [0, 1, 2, 3, 4], long);
 }
 
 pub fn edges() {
@@ -50,8 +36,8 @@ pub fn edges() {
     edge(b"k 3:", 3, 0);
     edge(b"k 32:", 32, 0);
     edge(b"k 33:", 33, 0);
-    line(b"order with a repeat:", 2, [0, 1, 2, 3, 1], 0, true);
-    line(b"k 33, order with a repeat:", 33, [0, 1, 2, 3, 1], 0, true);
+    line(b"order with a repeat:", 2, [0, 1, 2, 3, 1], 0);
+    line(b"k 33, order with a repeat:", 33, [0, 1, 2, 3, 1], 0);
 }
 
 // Each slice of the result and the work in turn is one entry too long.
@@ -91,6 +77,5 @@ pub fn long_line() {
         32,
         &order,
         0,
-        true,
     );
 }

@@ -17,14 +17,13 @@ fn room(asked: usize, long: u8, this: u8, most: usize) -> usize
     asked
 }
 
-// Asks, and tells the answer and, where it is watched, what the slices hold after it.
+// Asks, and tells the answer and what the slices hold after it.
 fn ask(
     starts: &[u32],
     heads: &[u32],
     weights: &[u32],
     k: usize,
     order: &[u32],
-    watched: bool,
     chosen: &mut [u8],
     starts_back: &mut [u32],
     heads_back: &mut [u32],
@@ -48,7 +47,6 @@ fn ask(
         sizes,
     );
     report(
-        watched,
         said,
         chosen,
         starts_back,
@@ -70,7 +68,6 @@ pub fn sample(
     k: usize,
     order: &[u32],
     long: u8,
-    watched: bool,
 ) {
     let n = road::node_count(starts).0;
     let m = heads.len();
@@ -88,7 +85,6 @@ pub fn sample(
         weights,
         k,
         order,
-        watched,
         &mut [7; 48][0..a],
         &mut [7; 48][0..b],
         &mut [7; 80][0..c],

@@ -76,10 +76,9 @@ fn say(right: bool, yes: &[u8], no: &[u8]) {
     }
 }
 
-// What the call said and, where it is watched, what it left: an answer fills the work with zeros, a
+// What the call said and what it left: an answer fills the work with zeros, a
 // refusal leaves everything the 7 that it held.
 pub fn report(
-    watched: bool,
     said: CoverAnswer,
     chosen: &[u8],
     starts_back: &[u32],
@@ -90,9 +89,6 @@ pub fn report(
     sizes: &[u32],
 ) {
     tell(said, chosen);
-    if !watched {
-        return;
-    }
     let x = match said {
         CoverAnswer::Covered(_) => 0u8,
         CoverAnswer::Refused(_) => 7,

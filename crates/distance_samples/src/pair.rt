@@ -53,13 +53,10 @@ pub fn line(label: &[u8], s: u32, t: u32, long: u8) {
 }
 
 pub fn questions() {
-    ring(b"P10", 1, 0);
     ring(b"Ring, 0 to 2:", 0, 2);
     ring(b"Ring, 2 to 1:", 2, 1);
     ring(b"Ring, 2 to 2:", 2, 2);
     ring(b"Ring, 1 to 1:", 1, 1);
-    wedge(b"P11, 0 to 1:", 0, 1);
-    wedge(b"P11, 1 to 0:", 1, 0);
     wedge(b"Wedge, 1 to 2:", 1, 2);
     line(b"Line, 1 to 3:", 1, 3, 0);
     line(b"Line, 0 to 4:", 0, 4, 0);

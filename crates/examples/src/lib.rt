@@ -1,0 +1,1 @@
+// The examples are data and a theorem alone: see specs/ and proofs/.
