@@ -1,13 +1,16 @@
 // What a line says.
 use cover::CoverAnswer;
+use printing::bytes_hold;
+use printing::hold;
+use printing::number;
+use printing::refused;
 
 // A node of the cover. A byte that is neither 0 nor 1 is told too, since no answer may leave one.
 fn node(v: usize, byte: u8) -> bool {
     if byte == 0 {
         return false;
     }
-    io::write_all(1, b" ");
-    io::print_decimal(1, v as u64);
+    number(b" ", v as u64);
     if byte != 1 {
         io::write_all(1, b" has a wrong byte");
     }
@@ -34,38 +37,12 @@ fn tell(said: CoverAnswer, chosen: &[u8]) {
     match said {
         CoverAnswer::Covered(count) => {
             nodes(chosen);
-            io::write_all(1, b" count ");
-            io::print_decimal(1, count.0 as u64);
+            number(b" count ", count.0 as u64);
         }
         CoverAnswer::Refused(why) => {
-            io::write_all(1, b" refused ");
-            io::print_decimal(1, road::number(why) as u64);
+            refused(why);
         }
     }
-}
-
-// Whether every byte is x.
-fn bytes_hold(s: &[u8], x: u8) -> bool {
-    let mut i = 0;
-    while i < s.len() {
-        if s[i] != x {
-            return false;
-        }
-        i += 1;
-    }
-    true
-}
-
-// Whether every number is x.
-fn hold(s: &[u32], x: u32) -> bool {
-    let mut i = 0;
-    while i < s.len() {
-        if s[i] != x {
-            return false;
-        }
-        i += 1;
-    }
-    true
 }
 
 fn say(right: bool, yes: &[u8], no: &[u8]) {

@@ -1,11 +1,11 @@
 // One question to either call.
-use crate::telling::bytes_hold;
-use crate::telling::hold;
 use crate::telling::left;
 use crate::telling::say;
 use crate::telling::tell;
-use crate::telling::wide_hold;
 use distance::DistanceAnswer;
+use printing::bytes_hold;
+use printing::hold;
+use printing::labels_hold;
 ghost use Prim.Native.Nat.{_≤_};
 
 // The entries asked for, one more where this slice is the one to be too long, and no more than there
@@ -54,7 +54,7 @@ pub fn ask_hand(
     tell(said);
     let queue = hold(heap, y) & hold(places, y) & hold(touched, y);
     say(
-        queue & wide_hold(labels, x as u64) & bytes_hold(blocked, x),
+        queue & labels_hold(labels, x as u64) & bytes_hold(blocked, x),
         x,
     );
 }
@@ -78,7 +78,7 @@ fn report_pair(
     let z = x as u64;
     tell(said);
     let back = hold(starts_back, y) & hold(heads_back, y) & hold(weights_back, y);
-    let rows = wide_hold(outward, z) & wide_hold(inward, z) & wide_hold(labels, z);
+    let rows = labels_hold(outward, z) & labels_hold(inward, z) & labels_hold(labels, z);
     let queue = hold(heap, y) & hold(places, y) & hold(touched, y);
     say(back & rows & queue & bytes_hold(blocked, x), x);
 }

@@ -1,19 +1,19 @@
 // What a line says.
 use distance::DistanceAnswer;
+use printing::number;
+use printing::refused;
 
 // The weight of a way, that there is none, or the refusal's number.
 pub fn tell(said: DistanceAnswer) {
     match said {
         DistanceAnswer::Way(d) => {
-            io::write_all(1, b" way ");
-            io::print_decimal(1, d);
+            number(b" way ", d);
         }
         DistanceAnswer::NoWay => {
             io::write_all(1, b" no way");
         }
         DistanceAnswer::Refused(why) => {
-            io::write_all(1, b" refused ");
-            io::print_decimal(1, road::number(why) as u64);
+            refused(why);
         }
     }
 }
@@ -25,42 +25,6 @@ pub fn left(said: DistanceAnswer) -> u8 {
         DistanceAnswer::NoWay => 0,
         DistanceAnswer::Refused(_) => 7,
     }
-}
-
-// Whether every byte is x.
-pub fn bytes_hold(s: &[u8], x: u8) -> bool {
-    let mut i = 0;
-    while i < s.len() {
-        if s[i] != x {
-            return false;
-        }
-        i += 1;
-    }
-    true
-}
-
-// Whether every number is x.
-pub fn hold(s: &[u32], x: u32) -> bool {
-    let mut i = 0;
-    while i < s.len() {
-        if s[i] != x {
-            return false;
-        }
-        i += 1;
-    }
-    true
-}
-
-// The same of numbers of 64 bits.
-pub fn wide_hold(s: &[u64], x: u64) -> bool {
-    let mut i = 0;
-    while i < s.len() {
-        if s[i] != x {
-            return false;
-        }
-        i += 1;
-    }
-    true
 }
 
 // Whether the work is as it should be.

@@ -3,17 +3,9 @@ use cover::CoverAnswer;
 use distance::DistanceAnswer;
 use drive::ThinAnswer;
 use overlay::OverlayAnswer;
-use road::Refusal;
+use printing::number;
+use printing::refused;
 ghost use Prim.Native.Nat.{_≤_};
-
-fn number(label: &[u8], n: u64) {
-    io::write_all(1, label);
-    io::print_decimal(1, n);
-}
-
-fn refused(why: Refusal) {
-    number(b" refused by ", road::number(why) as u64);
-}
 
 fn byte(x: u8) {
     number(b" ", x as u64);

@@ -1,69 +1,32 @@
 // What a line says.
 use overlay::OverlayAnswer;
+use printing::entries;
+use printing::hold;
+use printing::holding;
+use printing::labels_hold;
+use printing::number;
+use printing::refused;
 use road::Verdict;
 
-fn number(n: u64) {
-    io::write_all(1, b" ");
-    io::print_decimal(1, n);
-}
-
-fn entry(x: u32) {
-    number(x as u64);
-}
-
-fn entries(label: &[u8], s: &[u32]) {
+fn row(label: &[u8], s: &[u32]) {
     io::write_all(1, label);
-    let mut i = 0;
-    while i < s.len() {
-        entry(s[i]);
-        i += 1;
-    }
+    entries(s, 0, s.len());
 }
 
 // The entry at a place, where there is one.
 fn at(s: &[u32], i: usize) {
     if i < s.len() {
-        entry(s[i]);
+        number(b" ", s[i] as u64);
     }
-}
-
-// How many entries hold x.
-fn holding(s: &[u32], x: u32) -> usize {
-    let mut count = 0;
-    let mut i = 0;
-    while i < s.len() {
-        if s[i] == x {
-            count += 1;
-        }
-        i += 1;
-    }
-    count
-}
-
-fn labels_hold(s: &[u64], x: u64) -> bool {
-    let mut i = 0;
-    while i < s.len() {
-        if s[i] != x {
-            return false;
-        }
-        i += 1;
-    }
-    true
-}
-
-fn hold(s: &[u32], x: u32) -> bool {
-    holding(s, x) == s.len()
 }
 
 pub fn tell(said: OverlayAnswer) {
     match said {
         OverlayAnswer::Built(count) => {
-            io::write_all(1, b" count");
-            number(count.0 as u64);
+            number(b" count ", count.0 as u64);
         }
         OverlayAnswer::Refused(why) => {
-            io::write_all(1, b" refused");
-            number(road::number(why) as u64);
+            refused(why);
         }
     }
 }
@@ -74,9 +37,9 @@ pub fn results(starts: &[u32], heads: &[u32], weights: &[u32]) {
         io::write_all(1, b" results untouched");
         return;
     }
-    entries(b" starts", starts);
-    entries(b" heads", heads);
-    entries(b" weights", weights);
+    row(b" starts", starts);
+    row(b" heads", heads);
+    row(b" weights", weights);
 }
 
 // The same of long results: the first two and the last starts, the first and the last of so many
@@ -101,8 +64,8 @@ pub fn results_in_short(starts: &[u32], heads: &[u32], weights: &[u32], arcs: us
         at(weights, arcs - 1);
     }
     io::write_all(1, b" as they were");
-    number(holding(heads, 7777) as u64);
-    number(holding(weights, 7777) as u64);
+    number(b" ", holding(heads, 7777) as u64);
+    number(b" ", holding(weights, 7777) as u64);
 }
 
 // Whether the work holds 7777 as before, or zeros, or anything else.
@@ -124,8 +87,7 @@ pub fn judged(verdict: Verdict) {
             io::write_all(1, b" passed");
         }
         Verdict::Refused(why) => {
-            io::write_all(1, b" refused");
-            number(road::number(why) as u64);
+            refused(why);
         }
     }
 }

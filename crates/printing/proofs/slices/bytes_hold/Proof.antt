@@ -1,22 +1,17 @@
 use Prim.Native.Nat.{_-_, _≤_}
 use lib.ListN.{length}
 use borrow.Author.Needs.{needs}
-use Rattle.overlay_samples.proofs.telling.labels_hold.Statement.{statement}
-use Rattle.overlay_samples.proofs.telling.labels_hold.Tie as tie
+use Rattle.printing.proofs.slices.bytes_hold.Statement.{statement}
+use Rattle.printing.proofs.slices.bytes_hold.Tie as tie
 
 abbrev Inv-loop : tie.InvT-loop
-Inv-loop s x i₀ i =
-    i ≤ length s
+Inv-loop s x i₀ i = i ≤ length s
 
 abbrev μ-loop : tie.MeasureT-loop
-μ-loop s x i₀ i =
-    length s - i
+μ-loop s x i₀ i = length s - i
 
 loop-holds : tie.Need-loop-holds Inv-loop μ-loop
 loop-holds c = search needs
-
-mul-if1 : tie.Need-mul-if1 Inv-loop μ-loop
-mul-if1 c = search needs
 
 shared-slice-read-if1 : tie.Need-shared-slice-read-if1 Inv-loop μ-loop
 shared-slice-read-if1 c = search needs
@@ -36,14 +31,13 @@ loop-again c = search needs
 returns-2 : tie.Need-returns-2 Inv-loop μ-loop
 returns-2 c = search needs
 
-pub labels-hold-spec : {M : Type 1} → statement M
-labels-hold-spec =
+pub bytes-hold-spec : {M : Type 1} → statement M
+bytes-hold-spec =
     tie.close
     (tie.spec
     Inv-loop
     μ-loop
     loop-holds
-    mul-if1
     shared-slice-read-if1
     returns
     add-i

@@ -1,7 +1,7 @@
 use Prim.Native.Nat.{_-_, _≤_}
 use borrow.Author.Needs.{needs}
-use Rattle.drive_samples.proofs.telling.entries.Statement.{statement}
-use Rattle.drive_samples.proofs.telling.entries.Tie as tie
+use Rattle.printing.proofs.slices.entries.Statement.{statement}
+use Rattle.printing.proofs.slices.entries.Tie as tie
 
 abbrev Inv-loop : tie.InvT-loop
 Inv-loop s from end i₀ i = from ≤ i

@@ -3,8 +3,8 @@ use mathlib.Core.Logic.{⊎-elim}
 use Prim.Native.Nat.{_-_, _≤_}
 use lib.ListN.{length}
 use borrow.Author.Needs.{needs}
-use Rattle.overlay_samples.proofs.telling.holding.Statement.{statement}
-use Rattle.overlay_samples.proofs.telling.holding.Tie as tie
+use Rattle.printing.proofs.slices.holding.Statement.{statement}
+use Rattle.printing.proofs.slices.holding.Tie as tie
 
 abbrev Inv-loop : tie.InvT-loop
 Inv-loop s x count₀ i₀ count i =
