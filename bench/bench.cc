@@ -14,6 +14,7 @@
 #include <cstdlib>
 #include <cstring>
 #include <functional>
+#include <memory>
 #include <numeric>
 #include <string>
 #include <sys/mman.h>
@@ -22,9 +23,9 @@
 
 using namespace graphs;
 
-static const unsigned most_seconds = 20;  // for one call of the cover
-static const double cell_seconds = 0.4;   // for all repetitions of a cell, roughly
-static const size_t most_repetitions = 101;
+static const unsigned most_seconds = 20; // for one call of the cover
+static double cell_seconds = 1;          // for all repetitions of a cell, roughly
+static const size_t least_repetitions = 5, most_repetitions = 201;
 static const size_t questions = 32, drive_nodes = 1000;
 
 static efficient::Calls fast;
@@ -38,7 +39,8 @@ static double median(std::vector<double> all) {
   return all[all.size() / 2];
 }
 
-// Medians of the sides' seconds, the sides in turn.
+// Medians of the sides' seconds, the sides in turn: until the cell's time is over, and for the least number of
+// repetitions as long as that does not take five times as long.
 static std::vector<double> in_turn(const std::vector<Side> &sides) {
   std::vector<std::vector<double>> all(sides.size());
   const auto begin = std::chrono::steady_clock::now();
@@ -48,7 +50,7 @@ static std::vector<double> in_turn(const std::vector<Side> &sides) {
       sides[i]();
       all[i].push_back(seconds_since(before));
     }
-  } while (all[0].size() < most_repetitions && (seconds_since(begin) < cell_seconds || (all[0].size() < 5 && seconds_since(begin) < 5 * cell_seconds)));
+  } while (all[0].size() < most_repetitions && seconds_since(begin) < cell_seconds * (all[0].size() < least_repetitions ? 5 : 1));
   std::vector<double> medians;
   for (auto &side : all) medians.push_back(median(side));
   return medians;
@@ -301,39 +303,41 @@ static void thin_row(const Covered &c) {
 }
 
 // Calls lent one entry too many, so that all checks run, the last one refuses, and nothing is searched.
-static void check_rows(const Covered &c) {
-  const Town &town = *c.town;
-  const size_t n = town.n(), m = town.m();
+static void check_row(const Covered &c) {
+  const Graph &g = c.town->g, &o = c.overlay;
+  const Bytes &set = c.points;
+  const size_t n = c.town->n(), m = c.town->m();
   Nodes order(n), drive(1, 0), positions(2);
   std::iota(order.begin(), order.end(), 0);
-  Bytes points = c.points, one_more(n + 1);
-  const uint32_t s = uint32_t(std::find(points.begin(), points.end(), 1) - points.begin());
-  Graph room = c.overlay;
+  Bytes points(n + 1);
+  Graph room = o;
   room.starts.push_back(0);
+  const uint32_t s = uint32_t(std::find(set.begin(), set.end(), 1) - set.begin());
   lent::CoverWork cover_work(n, m);
   lent::OverlayWork overlay_work(n, m);
   lent::HandheldWork handheld_work(n + 1, m);
   lent::AnyPairWork any_pair_work(n + 1, m);
   const Lengths wrong = {{n + 1, n}};
-  const std::vector<std::tuple<const char *, std::function<uint32_t()>, std::function<uint32_t()>>> calls = {
-      {"cover", [&] { return lent::cover(town.g, c.k, order, one_more, cover_work).refusal; }, [&] { return fast.cover(town.g, c.k, order, one_more, {}).refusal; }},
-      {"overlay", [&] { return lent::overlay(town.g, points, room, overlay_work).refusal; }, [&] { return fast.overlay(town.g, points, room, {}).refusal; }},
-      {"handheld", [&] { return lent::handheld(points, c.overlay, s, s, handheld_work).refusal; },
-       [&] { return fast.handheld(points, c.overlay, s, s, wrong).refusal; }},
-      {"any-pair", [&] { return lent::any_pair(town.g, points, c.overlay, s, s, any_pair_work).refusal; },
-       [&] { return fast.any_pair(town.g, points, c.overlay, s, s, wrong).refusal; }},
-      {"thin", [&] { return lent::thin(town.g, points, drive, positions).refusal; }, [&] { return fast.thin(town.g, points, drive, positions).refusal; }},
+  using Refused = std::function<uint32_t()>;
+  const std::vector<std::pair<Refused, Refused>> calls = {
+      {[&] { return lent::cover(g, c.k, order, points, cover_work).refusal; }, [&] { return fast.cover(g, c.k, order, points, {}).refusal; }},
+      {[&] { return lent::overlay(g, set, room, overlay_work).refusal; }, [&] { return fast.overlay(g, set, room, {}).refusal; }},
+      {[&] { return lent::handheld(set, o, s, s, handheld_work).refusal; }, [&] { return fast.handheld(set, o, s, s, wrong).refusal; }},
+      {[&] { return lent::any_pair(g, set, o, s, s, any_pair_work).refusal; }, [&] { return fast.any_pair(g, set, o, s, s, wrong).refusal; }},
+      {[&] { return lent::thin(g, set, drive, positions).refusal; }, [&] { return fast.thin(g, set, drive, positions).refusal; }},
   };
-  for (auto &[call, ours, theirs] : calls) {
-    auto refused = [call = call](const std::function<uint32_t()> &side) { return [call, &side] { agree(call, side() == 11); }; };
-    auto cells = c.cells();
-    cells.push_back(call);
-    finish(cells, in_turn({refused(ours), refused(theirs)}), 1);
+  auto cells = c.cells();
+  for (auto &[ours, theirs] : calls) {
+    auto refused = [](const Refused &side) { return [&side] { agree("a call to be refused", side() == 11); }; };
+    const auto medians = in_turn({refused(ours), refused(theirs)});
+    cells.push_back(time_text(medians[0]) + ", " + time_text(medians[1]) + ": " + number(medians[0] / medians[1]));
   }
+  row(cells);
 }
 
 int main(int argc, char **argv) {
   const bool quick = argc > 1 && std::string(argv[1]) == "--quick";
+  if (quick) cell_seconds = 0.2;
   std::vector<Town> towns;
   for (uint32_t side : quick ? std::vector<uint32_t>{16} : std::vector<uint32_t>{16, 32, 64}) {
     maps::Draw draw(1);
@@ -355,8 +359,7 @@ int main(int argc, char **argv) {
   for (const Covered &c : covered) any_pair_row(c);
   heading("Thinning a drive of 1,000 nodes", {"map", "nodes", "k", "kept", "ours", "C++", "ours / C++"});
   for (const Covered &c : covered) thin_row(c);
-  heading("Checks alone, refused by 11", {"map", "nodes", "k", "call", "ours", "C++", "ours / C++"});
-  for (const Covered &c : covered)
-    if (c.k == 8) check_rows(c);
+  heading("Checks alone, each call refused by 11: ours, C++: ours / C++", {"map", "nodes", "k", "cover", "overlay", "handheld", "any-pair", "thin"});
+  for (const Covered &c : covered) check_row(c);
   return 0;
 }
