@@ -10,6 +10,7 @@
 #include <lemon/static_graph.h>
 
 #include <chrono>
+#include <csignal>
 #include <cstdio>
 #include <cstdlib>
 #include <cstring>
@@ -32,7 +33,8 @@ static efficient::Calls fast;
 
 using Side = std::function<void()>;
 
-static double seconds_since(std::chrono::steady_clock::time_point begin) { return std::chrono::duration<double>(std::chrono::steady_clock::now() - begin).count(); }
+using Clock = std::chrono::steady_clock;
+static double seconds_since(Clock::time_point begin) { return std::chrono::duration<double>(Clock::now() - begin).count(); }
 
 static double median(std::vector<double> all) {
   std::sort(all.begin(), all.end());
@@ -43,10 +45,10 @@ static double median(std::vector<double> all) {
 // repetitions as long as that does not take five times as long.
 static std::vector<double> in_turn(const std::vector<Side> &sides) {
   std::vector<std::vector<double>> all(sides.size());
-  const auto begin = std::chrono::steady_clock::now();
+  const auto begin = Clock::now();
   do {
     for (size_t i = 0; i < sides.size(); i++) {
-      const auto before = std::chrono::steady_clock::now();
+      const auto before = Clock::now();
       sides[i]();
       all[i].push_back(seconds_since(before));
     }
@@ -91,7 +93,7 @@ static void heading(const char *title, const std::vector<std::string> &columns) 
 
 // Maps, and what is made of them once for all tables.
 
-struct Town {
+struct Road {
   std::string kind;
   Graph g;
   std::vector<std::string> cells() const { return {kind, std::to_string(g.starts.size() - 1)}; }
@@ -99,16 +101,16 @@ struct Town {
   size_t m() const { return g.heads.size(); }
 };
 
-// A town with a cover, and with the cover's overlay if that is not refused.
+// A map with a cover, and with the cover's overlay if that is not refused.
 struct Covered {
-  const Town *town;
+  const Road *road;
   size_t k;
   Bytes points;
   Graph overlay;
   bool joined = false;
 
   std::vector<std::string> cells() const {
-    auto cells = town->cells();
+    auto cells = road->cells();
     cells.push_back(std::to_string(k));
     return cells;
   }
@@ -137,68 +139,71 @@ static Trial *shared_trial() {
 }
 
 // Fills the trial for the sides named, ours 0 and theirs 1.
-static void run_cover(const Town &town, size_t k, const Nodes &order, Trial &trial, const std::vector<int> &sides) {
+static void run_cover(const Road &road, size_t k, const Nodes &order, Trial &trial, const std::vector<int> &sides) {
   std::fflush(stdout);
   const pid_t child = fork();
   if (child != 0) {
-    int status;
+    int status = 0;
     if (child < 0 || waitpid(child, &status, 0) < 0) std::exit(1);
+    agree("cover", status == 0 || (WIFSIGNALED(status) && WTERMSIG(status) == SIGALRM));
     return;
   }
-  lent::CoverWork work(town.n(), town.m());
-  Bytes points[2] = {Bytes(town.n()), Bytes(town.n())};
+  lent::CoverWork work(road.n(), road.m());
+  Bytes points[2] = {Bytes(road.n()), Bytes(road.n())};
   std::vector<Side> runs;
   for (int side : sides)
     runs.push_back([&, side] {
       trial.ended[side] = false;
       alarm(most_seconds);
-      if (side == 0) trial.ours = lent::cover(town.g, k, order, points[0], work);
-      else trial.theirs = fast.cover(town.g, k, order, points[1], {});
+      if (side == 0) trial.ours = lent::cover(road.g, k, order, points[0], work);
+      else trial.theirs = fast.cover(road.g, k, order, points[1], {});
       trial.ended[side] = true;
     });
   const auto medians = in_turn(runs);
   for (size_t i = 0; i < sides.size(); i++) {
     trial.seconds[sides[i]] = medians[i];
-    std::memcpy(trial.points[sides[i]], points[sides[i]].data(), town.n());
+    std::memcpy(trial.points[sides[i]], points[sides[i]].data(), road.n());
   }
   _exit(0);
 }
 
-static void cover_row(const Town &town, size_t k, bool shuffled, std::vector<Covered> &covered) {
-  Nodes order(town.n());
+static void cover_row(const Road &road, size_t k, bool shuffled, std::vector<Covered> &covered) {
+  Nodes order(road.n());
   std::iota(order.begin(), order.end(), 0);
   maps::Draw draw(k);
   if (shuffled) std::shuffle(order.begin(), order.end(), draw);
   Trial &trial = *shared_trial();
   trial.ended[0] = trial.ended[1] = true;
-  run_cover(town, k, order, trial, {0, 1});
+  run_cover(road, k, order, trial, {0, 1});
   // If one side was too long, the other is tried alone.
   const bool in_time[2] = {trial.ended[0], trial.ended[1]};
   for (int side : {0, 1})
-    if (in_time[side] && !in_time[1 - side]) run_cover(town, k, order, trial, {side});
+    if (in_time[side] && !in_time[1 - side]) run_cover(road, k, order, trial, {side});
   const bool both = trial.ended[0] && trial.ended[1];
-  if (both) agree("cover", lent::same(trial.ours, trial.theirs) && std::memcmp(trial.points[0], trial.points[1], town.n()) == 0);
-  auto cells = town.cells();
+  if (both) agree("cover", lent::same(trial.ours, trial.theirs) && std::memcmp(trial.points[0], trial.points[1], road.n()) == 0);
   const size_t count = trial.ended[1] ? trial.theirs.count : trial.ours.count;
-  for (auto &cell : {std::to_string(town.m()), std::to_string(k), std::string(shuffled ? "shuffled" : "ascending"), trial.ended[0] || trial.ended[1] ? std::to_string(count) : "?"})
-    cells.push_back(cell);
+  auto cells = road.cells();
+  cells.push_back(std::to_string(road.m()));
+  cells.push_back(std::to_string(k));
+  cells.push_back(shuffled ? "shuffled" : "ascending");
+  cells.push_back(trial.ended[0] || trial.ended[1] ? std::to_string(count) : "?");
   for (int side : {0, 1}) cells.push_back(trial.ended[side] ? time_text(trial.seconds[side]) : "over " + std::to_string(most_seconds) + " s");
   cells.push_back(both ? number(trial.seconds[0] / trial.seconds[1]) : "?");
   row(cells);
   if (!shuffled && (trial.ended[0] || trial.ended[1])) {
     const uint8_t *points = trial.points[trial.ended[1] ? 1 : 0];
-    covered.push_back({&town, k, Bytes(points, points + town.n()), {}, false});
+    covered.push_back({&road, k, Bytes(points, points + road.n()), {}, false});
   }
 }
 
 static void overlay_row(Covered &c) {
-  const Town &town = *c.town;
+  const Road &road = *c.road;
   Graph room[2];
-  for (Graph &o : room) o.starts.assign(town.n() + 1, 0), o.heads.assign(65536, 0), o.weights.assign(65536, 0);
-  lent::OverlayWork work(town.n(), town.m());
+  for (Graph &o : room) o.starts.assign(road.n() + 1, 0), o.heads.assign(65536, 0), o.weights.assign(65536, 0);
+  lent::OverlayWork work(road.n(), road.m());
   gulvane_count ours;
   Count theirs;
-  const auto medians = in_turn({[&] { ours = lent::overlay(town.g, c.points, room[0], work); }, [&] { theirs = fast.overlay(town.g, c.points, room[1], {}); }});
+  const auto medians = in_turn({[&] { ours = lent::overlay(road.g, c.points, room[0], work); }, [&] { theirs = fast.overlay(road.g, c.points, room[1], {}); }});
   agree("overlay", lent::same(ours, theirs) && room[0] == room[1]);
   c.joined = ours.refusal == 0;
   c.overlay = room[0];
@@ -277,25 +282,25 @@ static void handheld_row(const Covered &c) {
 }
 
 static void any_pair_row(const Covered &c) {
-  const Town &town = *c.town;
-  Nodes all(town.n());
+  const Road &road = *c.road;
+  Nodes all(road.n());
   std::iota(all.begin(), all.end(), 0);
-  lent::AnyPairWork work(town.n(), town.m());
-  Lemon lemon(town.g);
+  lent::AnyPairWork work(road.n(), road.m());
+  Lemon lemon(road.g);
   distance_row(
-      c, "any_pair", some_questions(all), [&](Question q) { return lent::any_pair(town.g, c.points, c.overlay, q.s, q.t, work); },
-      [&](Question q) { return fast.any_pair(town.g, c.points, c.overlay, q.s, q.t, {}); }, lemon);
+      c, "any_pair", some_questions(all), [&](Question q) { return lent::any_pair(road.g, c.points, c.overlay, q.s, q.t, work); },
+      [&](Question q) { return fast.any_pair(road.g, c.points, c.overlay, q.s, q.t, {}); }, lemon);
 }
 
 static void thin_row(const Covered &c) {
-  const Town &town = *c.town;
+  const Road &road = *c.road;
   maps::Draw draw(9);
   Nodes drive;
-  while (drive.size() < drive_nodes) drive = maps::wander(town.g, drive_nodes, draw);
+  while (drive.size() < drive_nodes) drive = maps::wander(road.g, drive_nodes, draw);
   Nodes positions[2] = {Nodes(drive.size()), Nodes(drive.size())};
   gulvane_count ours;
   Count theirs;
-  const auto medians = in_turn({[&] { ours = lent::thin(town.g, c.points, drive, positions[0]); }, [&] { theirs = fast.thin(town.g, c.points, drive, positions[1]); }});
+  const auto medians = in_turn({[&] { ours = lent::thin(road.g, c.points, drive, positions[0]); }, [&] { theirs = fast.thin(road.g, c.points, drive, positions[1]); }});
   agree("thin", lent::same(ours, theirs) && positions[0] == positions[1]);
   auto cells = c.cells();
   cells.push_back(std::to_string(ours.count));
@@ -304,9 +309,9 @@ static void thin_row(const Covered &c) {
 
 // Calls lent one entry too many, so that all checks run, the last one refuses, and nothing is searched.
 static void check_row(const Covered &c) {
-  const Graph &g = c.town->g, &o = c.overlay;
+  const Graph &g = c.road->g, &o = c.overlay;
   const Bytes &set = c.points;
-  const size_t n = c.town->n(), m = c.town->m();
+  const size_t n = c.road->n(), m = c.road->m();
   Nodes order(n), drive(1, 0), positions(2);
   std::iota(order.begin(), order.end(), 0);
   Bytes points(n + 1);
@@ -338,17 +343,17 @@ static void check_row(const Covered &c) {
 int main(int argc, char **argv) {
   const bool quick = argc > 1 && std::string(argv[1]) == "--quick";
   if (quick) cell_seconds = 0.2;
-  std::vector<Town> towns;
+  std::vector<Road> roads;
   for (uint32_t side : quick ? std::vector<uint32_t>{16} : std::vector<uint32_t>{16, 32, 64}) {
     maps::Draw draw(1);
-    towns.push_back({"road-like", maps::road_like(side * side, draw)});
-    towns.push_back({"grid", maps::grid(side, side, draw)});
+    roads.push_back({"road-like", maps::road_like(side * side, draw)});
+    roads.push_back({"grid", maps::grid(side, side, draw)});
   }
   std::vector<Covered> covered;
   heading("Cover", {"map", "nodes", "arcs", "k", "order", "points", "ours", "C++", "ours / C++"});
-  for (const Town &town : towns)
+  for (const Road &road : roads)
     for (size_t k : {4, 8, 16, 32})
-      for (bool shuffled : {false, true}) cover_row(town, k, shuffled, covered);
+      for (bool shuffled : {false, true}) cover_row(road, k, shuffled, covered);
   heading("Overlay of the cover", {"map", "nodes", "k", "overlay arcs", "ours", "C++", "ours / C++"});
   for (Covered &c : covered) overlay_row(c);
   covered.erase(std::remove_if(covered.begin(), covered.end(), [](const Covered &c) { return !c.joined; }), covered.end());
@@ -359,7 +364,8 @@ int main(int argc, char **argv) {
   for (const Covered &c : covered) any_pair_row(c);
   heading("Thinning a drive of 1,000 nodes", {"map", "nodes", "k", "kept", "ours", "C++", "ours / C++"});
   for (const Covered &c : covered) thin_row(c);
-  heading("Checks alone, each call refused by 11: ours, C++: ours / C++", {"map", "nodes", "k", "cover", "overlay", "handheld", "any-pair", "thin"});
+  heading("Checks alone, each call refused by 11: ours, C++: ours / C++",
+          {"map", "nodes", "k", "cover", "overlay", "handheld", "any-pair", "thin"});
   for (const Covered &c : covered) check_row(c);
   return 0;
 }

@@ -196,11 +196,14 @@ static Graph foreign(const Bytes &set) {
     if (set[v]) members.push_back(v);
   std::shuffle(members.begin(), members.end(), draw);
   maps::Arcs arcs;
-  const bool way = chance(3);
+  if (chance(3)) {
+    for (size_t i = 1; i < members.size(); i++) arcs.one_way(members[i - 1], members[i], most_overlay);
+    return arcs.graph(uint32_t(set.size()));
+  }
   const unsigned percent = between(0, members.size() > 30 ? 10 : 100);
-  for (size_t i = 0; i < members.size(); i++)
-    for (size_t j = way ? i + 1 : 0; j < (way ? std::min(i + 2, members.size()) : members.size()); j++)
-      if (way || maps::chance(draw, percent)) arcs.one_way(members[i], members[j], way ? most_overlay : chance(3) ? uint32_t(below(most_overlay + 1ull)) : weight());
+  for (uint32_t a : members)
+    for (uint32_t b : members)
+      if (maps::chance(draw, percent)) arcs.one_way(a, b, chance(3) ? uint32_t(below(most_overlay + 1ull)) : weight());
   return arcs.graph(uint32_t(set.size()));
 }
 
