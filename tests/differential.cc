@@ -1,48 +1,132 @@
-// Sends random small graphs, whole and damaged, through the archive's five calls and through the
-// reference, and compares the answers and every slice afterwards.
+// Sends random graphs, whole and damaged, through the archive's five calls and through the independent
+// implementations, and compares the answers and every slice afterwards. Half of the time goes to graphs of
+// up to 7 nodes, judged by the reference, with which the efficient implementation must agree; the other
+// half to larger ones, road-like and adversarial, judged by the efficient implementation.
 //   differential SECONDS [SEED]
-#include "gulvane.h"
+#include "efficient.hpp"
+#include "lent.hpp"
+#include "maps.hpp"
 #include "reference.hpp"
 
 #include <chrono>
 #include <cstdio>
 #include <cstdlib>
 #include <map>
-#include <random>
+#include <numeric>
 #include <set>
 #include <string>
+#include <unistd.h>
 
-using namespace reference;
+using namespace graphs;
 
 static std::mt19937_64 draw;
 static uint64_t below(uint64_t n) { return draw() % n; }
 static bool chance(unsigned in) { return below(in) == 0; }
+static uint32_t between(uint32_t least, uint32_t most) { return uint32_t(least + below(most - least + 1)); }
 
-#define LENT(slice) (slice).data(), (slice).size()
-
+static efficient::Calls fast;
+static bool small; // whether the reference judges too
+static uint64_t rounds;
 static std::map<std::string, std::map<uint32_t, uint64_t>> seen;
 
 static void differs(const char *call, const char *what) {
-  std::printf("differential: %s: %s differs\n", call, what);
+  std::printf("differential: %s: %s differs in round %llu of the %s graphs\n", call, what, (unsigned long long)rounds, small ? "small" : "larger");
   std::exit(1);
 }
 
-// A slice of junk, now and then of a length one off. One entry more is kept so that a slice of none has a pointer.
+static void agree(const char *call, const char *what, bool alike) {
+  if (!alike) differs(call, what);
+}
+
+// A slice of junk, now and then of a length one off.
 template <class T> static std::vector<T> junk(size_t n) {
-  if (chance(40)) n = n && chance(2) ? n - 1 : n + 1;
-  std::vector<T> l;
-  l.reserve(n + 1);
-  for (size_t i = 0; i < n; i++) l.push_back(T(draw()));
+  if (chance(60)) n = n && chance(2) ? n - 1 : n + 1;
+  std::vector<T> l(n);
+  for (T &entry : l) entry = T(draw());
   return l;
 }
 
-template <class T> static void same(const char *call, const char *what, const std::vector<T> &a, const std::vector<T> &b) {
-  if (a != b) differs(call, what);
+template <class Work> static Work junk_work(size_t n, size_t m) {
+  Work work(n, m);
+  work.each([](auto &slice) { slice = junk<typename std::decay_t<decltype(slice)>::value_type>(slice.size()); });
+  return work;
 }
 
-// Work after the call: as it was, or zeros.
-template <class T> static void left(const char *call, const std::vector<T> &was, const std::vector<T> &is, bool zeroed) {
-  same(call, "work", is, zeroed ? std::vector<T>(was.size(), 0) : was);
+// The answer, and the work after the call: as it was, or zeros.
+template <class Is, class Told, class Work> static void judge(const char *call, const Is &is, const Told &told, Work &work, const Work &was) {
+  seen[call][is.refusal]++;
+  agree(call, "the answer", lent::same(is, told));
+  const bool searched = told.refusal == 0 || told.refusal == 12;
+  agree(call, "the work", searched ? work.zero() && work.lengths() == Work(was).lengths() : work.slices == was.slices);
+}
+
+static void try_cover(const Graph &g, size_t n, size_t m, size_t k) {
+  if (chance(25)) k = chance(2) ? 0 : 33;
+  Nodes order(n);
+  std::iota(order.begin(), order.end(), 0);
+  if (!chance(5)) std::shuffle(order.begin(), order.end(), draw);
+  if (chance(25)) order[below(n)] = uint32_t(below(n + 1));
+  if (chance(40)) order.push_back(0);
+  auto points = junk<uint8_t>(n), told_points = points;
+  auto work = junk_work<lent::CoverWork>(n, m);
+  const auto was = work;
+  Lengths lengths = work.lengths();
+  lengths.push_back({points.size(), n});
+  const Count told = fast.cover(g, k, order, told_points, lengths);
+  if (small) {
+    auto slow_points = points;
+    agree("cover", "the reference", reference::cover(g, k, order, slow_points, lengths) == told && slow_points == told_points);
+  }
+  judge("cover", lent::cover(g, k, order, points, work), told, work, was);
+  agree("cover", "the points", points == told_points);
+}
+
+static void try_overlay(const Graph &g, const Bytes &set, size_t n, size_t room) {
+  Graph o;
+  o.starts = junk<uint32_t>(n + 1), o.heads = junk<uint32_t>(room), o.weights = junk<uint32_t>(o.heads.size());
+  Graph made = o;
+  auto work = junk_work<lent::OverlayWork>(n, 0);
+  const auto was = work;
+  Lengths lengths = work.lengths();
+  lengths.push_back({o.starts.size(), n + 1}), lengths.push_back({o.heads.size(), o.weights.size()});
+  const Count told = fast.overlay(g, set, made, lengths);
+  if (small) {
+    Graph slow = o;
+    agree("overlay", "the reference", reference::overlay(g, set, slow, lengths) == told && slow == made);
+  }
+  judge("overlay", lent::overlay(g, set, o, work), told, work, was);
+  agree("overlay", "the result", o == made);
+}
+
+static void try_handheld(const Bytes &set, const Graph &o, uint32_t s, uint32_t t) {
+  auto work = junk_work<lent::HandheldWork>(set.size(), 0);
+  const auto was = work;
+  const Lengths lengths = work.lengths();
+  const Distance told = fast.handheld(set, o, s, t, lengths);
+  if (small) agree("handheld", "the reference", reference::handheld(set, o, s, t, lengths) == told);
+  judge("handheld", lent::handheld(set, o, s, t, work), told, work, was);
+}
+
+static void try_any_pair(const Graph &g, const Bytes &set, const Graph &o, size_t n, size_t m, uint32_t s, uint32_t t) {
+  auto work = junk_work<lent::AnyPairWork>(n, m);
+  const auto was = work;
+  const Lengths lengths = work.lengths();
+  const Distance told = fast.any_pair(g, set, o, s, t, lengths);
+  if (small) agree("any_pair", "the reference", reference::any_pair(g, set, o, s, t, lengths) == told);
+  judge("any_pair", lent::any_pair(g, set, o, s, t, work), told, work, was);
+}
+
+static void try_thin(const Graph &g, const Bytes &set, const Nodes &drive) {
+  auto positions = junk<uint32_t>(drive.size()), kept = positions;
+  const Count told = fast.thin(g, set, drive, kept);
+  if (small) {
+    auto slow = positions;
+    agree("thin", "the reference", reference::thin(g, set, drive, slow) == told && slow == kept);
+  }
+  const gulvane_count is = lent::thin(g, set, drive, positions);
+  seen["thin"][is.refusal]++;
+  agree("thin", "the answer", lent::same(is, told));
+  agree("thin", "the positions", positions == kept);
 }
 
 static uint32_t weight() {
@@ -54,23 +138,10 @@ static uint32_t weight() {
   }
 }
 
-static Graph graph(uint32_t n, const Bytes *ends, uint64_t heaviest) {
-  Graph g;
-  unsigned dense = unsigned(1 + below(5));
-  for (uint32_t v = 0; v < n; v++) {
-    g.starts.push_back(uint32_t(g.heads.size()));
-    for (uint32_t x = 0; x < n; x++)
-      if (x != v && chance(dense) && (!ends || ((*ends)[v] == 1 && (*ends)[x] == 1))) {
-        g.heads.push_back(x);
-        g.weights.push_back(heaviest > 1000000 && chance(3) ? uint32_t(below(heaviest + 1)) : weight());
-      }
-  }
-  g.starts.push_back(uint32_t(g.heads.size()));
-  return g;
-}
+static const uint32_t most_road = 1000000, most_overlay = 4095000000u;
 
 // One fault, of any kind, in one place out of ten graphs.
-static void damage(Graph &g, uint64_t heaviest) {
+static void damage(Graph &g, uint32_t heaviest) {
   if (!chance(10)) return;
   auto any = [](Nodes &l) -> uint32_t & { return l[below(l.size())]; };
   switch (below(10)) {
@@ -78,178 +149,201 @@ static void damage(Graph &g, uint64_t heaviest) {
   case 1: g.starts.resize(1); break;
   case 2: if (!g.heads.empty()) g.heads.pop_back(); break;
   case 3: g.weights.push_back(1); break;
-  case 4: if (!g.starts.empty()) any(g.starts) = uint32_t(below(12)); break;
-  case 5: if (!g.heads.empty()) any(g.heads) = uint32_t(below(10)); break;
-  case 6: if (!g.weights.empty()) any(g.weights) = uint32_t(heaviest + 1); break;
+  case 4: if (!g.starts.empty()) any(g.starts) = uint32_t(below(g.heads.size() + 3)); break;
+  case 5: if (!g.heads.empty()) any(g.heads) = uint32_t(below(g.starts.size() + 2)); break;
+  case 6: if (!g.weights.empty()) any(g.weights) = heaviest + 1; break;
   case 7: if (!g.starts.empty()) g.starts.push_back(g.starts.back()); break;
   case 8: if (!g.heads.empty()) any(g.heads) = uint32_t(draw()); break;
   default: g.starts.assign(4098, 0); break;
   }
 }
 
-static Bytes bytes(size_t n) {
-  Bytes s;
-  s.reserve(n + 2);
-  unsigned in = unsigned(1 + below(4));
-  for (size_t v = 0; v < n; v++) s.push_back(chance(in));
-  if (chance(30)) s.push_back(0);
-  if (chance(30) && !s.empty()) s[below(s.size())] = 2;
-  return s;
+static void damage(Bytes &set) {
+  if (chance(30)) set.push_back(0);
+  if (chance(30) && !set.empty()) set[below(set.size())] = 2;
+  if (chance(60)) set.assign(chance(2) ? 0 : 4097, 0);
 }
 
-static void try_cover(const Graph &g, size_t n, size_t m) {
-  size_t k = chance(25) ? (chance(2) ? 0 : 33) : 1 + below(n + 2);
-  Nodes order;
-  for (uint32_t v = 0; v < n; v++) order.push_back(v);
-  std::shuffle(order.begin(), order.end(), draw);
-  if (chance(25) && n) order[below(n)] = uint32_t(below(n + 1));
-  if (chance(40)) order.push_back(0);
-  auto points = junk<uint8_t>(n), marks = junk<uint8_t>(n);
-  auto starts_back = junk<uint32_t>(n + 1), heads_back = junk<uint32_t>(m), weights_back = junk<uint32_t>(m);
-  auto pieces = junk<uint32_t>(n), sizes = junk<uint32_t>(n);
-  auto points_was = points, marks_was = marks;
-  auto starts_was = starts_back, heads_was = heads_back, weights_was = weights_back, pieces_was = pieces, sizes_was = sizes;
-  Count told = cover(g, k, order, points_was,
-                     {{points.size(), n}, {starts_back.size(), n + 1}, {heads_back.size(), m}, {weights_back.size(), m}, {marks.size(), n}, {pieces.size(), n}, {sizes.size(), n}});
-  gulvane_count is = gulvane_cover(LENT(g.starts), LENT(g.heads), LENT(g.weights), k, LENT(order), LENT(points), LENT(starts_back), LENT(heads_back),
-                                   LENT(weights_back), LENT(marks), LENT(pieces), LENT(sizes));
-  seen["cover"][is.refusal]++;
-  if (is.refusal != told.refusal || is.count != told.count) differs("cover", "the answer");
-  same("cover", "the points", points, points_was);
-  bool zeroed = told.refusal == 0;
-  left("cover", starts_was, starts_back, zeroed), left("cover", heads_was, heads_back, zeroed), left("cover", weights_was, weights_back, zeroed);
-  left("cover", marks_was, marks, zeroed), left("cover", pieces_was, pieces, zeroed), left("cover", sizes_was, sizes, zeroed);
+static void damage(Nodes &drive, size_t n) {
+  if (chance(30)) drive.clear();
+  else if (chance(30)) drive.resize(4097);
+  else if (chance(10)) drive[below(drive.size())] = uint32_t(below(n + 2));
 }
 
-static void try_overlay(const Graph &g, const Bytes &set, size_t n) {
-  size_t room = below(std::min<size_t>(n * n, 64) + 2);
-  Graph o;
-  o.starts = junk<uint32_t>(n + 1), o.heads = junk<uint32_t>(room), o.weights = junk<uint32_t>(o.heads.size());
-  auto labels = junk<uint64_t>(n);
-  auto heap = junk<uint32_t>(2 * n), places = junk<uint32_t>(n), touched = junk<uint32_t>(n);
-  auto labels_was = labels;
-  auto heap_was = heap, places_was = places, touched_was = touched;
-  Graph made = o;
-  bool zeroed;
-  Count told = overlay(g, set, made,
-                       {{o.starts.size(), n + 1}, {o.heads.size(), o.weights.size()}, {labels.size(), n}, {heap.size(), 2 * n}, {places.size(), n}, {touched.size(), n}}, zeroed);
-  gulvane_count is = gulvane_overlay(LENT(g.starts), LENT(g.heads), LENT(g.weights), LENT(set), LENT(o.starts), LENT(o.heads), LENT(o.weights), LENT(labels),
-                                     LENT(heap), LENT(places), LENT(touched));
-  seen["overlay"][is.refusal]++;
-  if (is.refusal != told.refusal || is.count != told.count) differs("overlay", "the answer");
-  same("overlay", "the starts", o.starts, made.starts), same("overlay", "the heads", o.heads, made.heads), same("overlay", "the weights", o.weights, made.weights);
-  left("overlay", labels_was, labels, zeroed), left("overlay", heap_was, heap, zeroed), left("overlay", places_was, places, zeroed), left("overlay", touched_was, touched, zeroed);
+static Bytes some_nodes(size_t n) {
+  Bytes set(n);
+  const unsigned in = between(1, 4);
+  for (uint8_t &byte : set) byte = chance(in);
+  return set;
 }
 
-static void compare(const char *call, gulvane_distance is, const Distance &told) {
-  seen[call][is.refusal]++;
-  if (is.refusal != told.refusal || is.way != (told.weight ? 1u : 0u) || is.weight != told.weight.value_or(0)) differs(call, "the answer");
-}
-
-static void try_distances(const Graph &g, const Bytes &set, const Graph &o, size_t n, size_t m) {
-  uint32_t s = uint32_t(chance(30) ? n + below(2) : below(n)), t = uint32_t(chance(30) ? n : below(n));
-  size_t length = set.size();
-  auto labels = junk<uint64_t>(length);
-  auto heap = junk<uint32_t>(2 * length), places = junk<uint32_t>(length), touched = junk<uint32_t>(length);
-  auto blocked = junk<uint8_t>(length);
-  auto labels_was = labels;
-  auto heap_was = heap, places_was = places, touched_was = touched;
-  auto blocked_was = blocked;
-  Distance told = handheld(set, o, s, t, {{labels.size(), length}, {heap.size(), 2 * length}, {places.size(), length}, {touched.size(), length}, {blocked.size(), length}});
-  compare("handheld",
-          gulvane_handheld(LENT(set), LENT(o.starts), LENT(o.heads), LENT(o.weights), s, t, LENT(labels), LENT(heap), LENT(places), LENT(touched), LENT(blocked)), told);
-  bool zeroed = told.refusal == 0;
-  left("handheld", labels_was, labels, zeroed), left("handheld", heap_was, heap, zeroed), left("handheld", places_was, places, zeroed);
-  left("handheld", touched_was, touched, zeroed), left("handheld", blocked_was, blocked, zeroed);
-
-  auto starts_back = junk<uint32_t>(n + 1), heads_back = junk<uint32_t>(m), weights_back = junk<uint32_t>(m);
-  auto outward = junk<uint64_t>(n), inward = junk<uint64_t>(n);
-  labels = junk<uint64_t>(n), heap = junk<uint32_t>(2 * n), places = junk<uint32_t>(n), touched = junk<uint32_t>(n), blocked = junk<uint8_t>(n);
-  auto starts_was = starts_back, heads_was = heads_back, weights_was = weights_back;
-  auto outward_was = outward, inward_was = inward;
-  labels_was = labels, heap_was = heap, places_was = places, touched_was = touched, blocked_was = blocked;
-  told = any_pair(g, set, o, s, t,
-                  {{starts_back.size(), n + 1}, {heads_back.size(), m}, {weights_back.size(), m}, {outward.size(), n}, {inward.size(), n}, {labels.size(), n}, {heap.size(), 2 * n},
-                   {places.size(), n}, {touched.size(), n}, {blocked.size(), n}});
-  compare("any_pair",
-          gulvane_any_pair(LENT(g.starts), LENT(g.heads), LENT(g.weights), LENT(set), LENT(o.starts), LENT(o.heads), LENT(o.weights), s, t, LENT(starts_back),
-                           LENT(heads_back), LENT(weights_back), LENT(outward), LENT(inward), LENT(labels), LENT(heap), LENT(places), LENT(touched), LENT(blocked)),
-          told);
-  zeroed = told.refusal == 0;
-  left("any_pair", starts_was, starts_back, zeroed), left("any_pair", heads_was, heads_back, zeroed), left("any_pair", weights_was, weights_back, zeroed);
-  left("any_pair", outward_was, outward, zeroed), left("any_pair", inward_was, inward, zeroed), left("any_pair", labels_was, labels, zeroed);
-  left("any_pair", heap_was, heap, zeroed), left("any_pair", places_was, places, zeroed), left("any_pair", touched_was, touched, zeroed);
-  left("any_pair", blocked_was, blocked, zeroed);
-}
-
-static void try_thin(const Graph &g, const Bytes &set, size_t n, bool whole) {
-  Nodes drive;
-  drive.reserve(8);
-  uint32_t at = uint32_t(below(n));
-  for (size_t i = below(9); i > 0; i--) {
-    drive.push_back(at);
-    if (!whole || chance(20) || g.starts[at] == g.starts[at + 1]) at = uint32_t(below(n + (chance(10) ? 2 : 0)));
-    else at = g.heads[g.starts[at] + below(g.starts[at + 1] - g.starts[at])];
-    if (at >= n) whole = false;
-  }
-  auto positions = junk<uint32_t>(drive.size());
-  auto kept = positions;
-  Count told = thin(g, set, drive, kept);
-  gulvane_count is = gulvane_thin(LENT(g.starts), LENT(g.heads), LENT(g.weights), LENT(set), LENT(drive), LENT(positions));
-  seen["thin"][is.refusal]++;
-  if (is.refusal != told.refusal || is.count != told.count) differs("thin", "the answer");
-  same("thin", "the positions", positions, kept);
-}
-
-int main(int argc, char **argv) {
-  if (argc < 2) return 2;
-  double seconds = std::atof(argv[1]);
-  draw.seed(argc > 2 ? std::strtoull(argv[2], nullptr, 10) : 1);
-  auto begin = std::chrono::steady_clock::now();
-  uint64_t rounds = 0;
-  while (std::chrono::duration<double>(std::chrono::steady_clock::now() - begin).count() < seconds) {
-    uint32_t n = uint32_t(1 + below(7));
-    Bytes set = bytes(n);
-    if (chance(60)) set.assign(chance(2) ? 0 : 4097, 0);
-    Graph g = graph(n, nullptr, 1000000);
-    damage(g, 1000000);
-    size_t nodes = g.starts.size() < 2 ? 1 : g.starts.size() - 1, m = g.heads.size();
-    Bytes ends = set;
-    ends.resize(n);
-    Graph o = graph(n, &ends, 4095000000ull);
-    damage(o, 4095000000ull);
-    bool whole = road_fault(g) == 0;
-    // Most overlays are foreign; half of those that can be are the road's own.
-    if (whole && !set_fault(set, n) && chance(2)) {
-      Graph made;
-      made.starts.assign(n + 1, 0), made.heads.assign(n * n, 0), made.weights.assign(n * n, 0);
-      bool zeroed;
-      Count c = overlay(g, set, made, {}, zeroed);
-      made.heads.resize(c.count), made.weights.resize(c.count);
-      o = made;
+static void weigh(Graph &g) {
+  const uint64_t style = below(6);
+  for (uint32_t &w : g.weights) switch (style) {
+    case 0: w = 0; break;
+    case 1: w = chance(2) ? 0 : most_road; break;
+    case 2: w = 7; break;
+    case 3: w = most_road; break;
+    case 4: w = weight(); break;
+    default: break;
     }
-    try_cover(g, nodes, m);
-    try_overlay(g, set, nodes);
-    try_distances(g, set, o, nodes, m);
-    try_thin(g, set, nodes, whole);
-    rounds++;
+}
+
+// An overlay of another graph: scattered arcs between the set's nodes, or one long way through all of them.
+static Graph foreign(const Bytes &set) {
+  Nodes members;
+  for (uint32_t v = 0; v < set.size(); v++)
+    if (set[v]) members.push_back(v);
+  std::shuffle(members.begin(), members.end(), draw);
+  maps::Arcs arcs;
+  if (chance(3)) {
+    for (size_t i = 1; i < members.size(); i++) arcs.one_way(members[i - 1], members[i], most_overlay);
+    return arcs.graph(uint32_t(set.size()));
   }
+  const unsigned percent = between(0, members.size() > 30 ? 10 : 100);
+  for (uint32_t a : members)
+    for (uint32_t b : members)
+      if (maps::chance(draw, percent)) arcs.one_way(a, b, chance(3) ? uint32_t(below(most_overlay + 1ull)) : weight());
+  return arcs.graph(uint32_t(set.size()));
+}
+
+// The road's own overlay, of a whole graph and set.
+static Graph own(const Graph &g, const Bytes &set) {
+  Graph o;
+  o.starts.resize(g.starts.size()), o.heads.resize(65536), o.weights.resize(65536);
+  const size_t count = fast.overlay(g, set, o, {}).count;
+  o.heads.resize(count), o.weights.resize(count);
+  return o;
+}
+
+static bool whole(const Graph &g, const Bytes &set) {
+  return !efficient::fault_of_graph(g, efficient::road_limits) && efficient::is_set(set, g.starts.size() - 1);
+}
+
+static uint32_t question(size_t n) { return uint32_t(chance(30) ? n + below(2) : below(n)); }
+
+// Mostly a node of the set, if there is one.
+static uint32_t handheld_question(const Bytes &set, size_t n) {
+  uint32_t v = question(n);
+  for (size_t tries = 0; tries < 20 && v < set.size() && set[v] != 1; tries++) v = uint32_t(below(n));
+  return v;
+}
+
+// All five calls on a graph and a set, with or without faults.
+static void try_all(Graph g, Bytes set, size_t k) {
+  Graph o = foreign(set);
+  // Most overlays are foreign; half of those that can be are the road's own.
+  if (chance(2)) o = own(g, set);
+  Nodes drive = maps::wander(g, 1 + below(2 * set.size() + 2), draw);
+  damage(g, most_road), damage(o, most_overlay), damage(set), damage(drive, g.starts.size());
+  const size_t n = g.starts.size() < 2 ? 1 : g.starts.size() - 1, m = g.heads.size();
+  size_t room = below(std::min<size_t>(n * n, 64) + 2);
+  // Often the room is just enough, or one too few; where there may be too many arcs it is all that counts, or more.
+  if (whole(g, set) && !chance(3)) room = own(g, set).heads.size();
+  if (room > 0 && chance(6)) room--;
+  if (n > 256 && chance(2)) room = 65536 + below(3);
+  try_cover(g, n, m, k);
+  try_overlay(g, set, n, room);
+  for (size_t i = small ? 1 : 4; i > 0; i--) {
+    try_handheld(set, o, chance(20) ? question(n) : handheld_question(set, n), handheld_question(set, n));
+    try_any_pair(g, set, o, n, m, question(n), question(n));
+  }
+  try_thin(g, set, drive);
+}
+
+static void small_round() {
+  const uint32_t n = between(1, 7);
+  Graph g = maps::scattered(n, 100 / between(1, 5), draw);
+  for (uint32_t &w : g.weights) w = weight();
+  try_all(g, some_nodes(n), between(1, n + 2));
+}
+
+// A larger map, and the most nodes of a path for which pruning does not look at too many.
+static std::pair<Graph, uint32_t> larger_map() {
+  const uint32_t n = chance(4) ? between(61, 200) : between(8, 60);
+  switch (below(9)) {
+  case 0: return {maps::chain(n, true, chance(2), draw), 32};
+  case 1: return {maps::chain(n, false, chance(2), draw), 32};
+  case 2: return {maps::fan(between(1, 30), between(1, 30), chance(2), draw), 5};
+  case 3: return {maps::scattered(between(2, 40), 100, draw), 8};
+  case 4: return {maps::scattered(between(8, 60), between(0, 6), draw), 7};
+  case 5: return {maps::grid(between(2, 10), between(2, 10), draw), 16};
+  default: return {maps::road_like(n, draw), 32};
+  }
+}
+
+// Sources and sinks whose overlay has 65,536 arcs, or with one arc from source to source one more.
+static std::pair<Graph, Bytes> full_overlay() {
+  Graph g = maps::fan(256, 256, false, draw);
+  Bytes set(g.starts.size() - 1, 1);
+  set[0] = 0;
+  if (chance(2)) {
+    g.heads.insert(g.heads.begin() + g.starts[2], 2), g.weights.insert(g.weights.begin() + g.starts[2], 1);
+    for (size_t v = 2; v < g.starts.size(); v++) g.starts[v]++;
+  }
+  return {g, set};
+}
+
+static std::pair<Graph, Bytes> longest_chain() {
+  Bytes set(4096, 0);
+  for (size_t i = below(4); i > 0; i--) set[below(4096)] = 1;
+  set.front() = set.back() = 1;
+  return {maps::chain(4096, chance(2), chance(2), draw), set};
+}
+
+static void larger_round() {
+  if (chance(100)) {
+    auto [g, set] = chance(2) ? full_overlay() : longest_chain();
+    weigh(g);
+    try_all(g, set, 3);
+    return;
+  }
+  auto [g, most_k] = larger_map();
+  weigh(g);
+  const size_t n = g.starts.size() - 1;
+  Bytes set = chance(10) ? Bytes(n, chance(2)) : some_nodes(n);
+  const size_t k = between(1, most_k);
+  if (chance(3)) {
+    Nodes order(n);
+    std::iota(order.begin(), order.end(), 0);
+    fast.cover(g, k, order, set, {});
+  }
+  try_all(g, set, k);
+}
+
+// Rounds for so long; then what was answered and refused, how often, and whether any number never was.
+static bool run(double seconds, void round()) {
+  rounds = 0, seen.clear();
+  const auto begin = std::chrono::steady_clock::now();
+  while (std::chrono::duration<double>(std::chrono::steady_clock::now() - begin).count() < seconds) round(), rounds++;
   const std::map<std::string, std::set<uint32_t>> wanted = {{"cover", {0, 1, 2, 3, 4, 5, 11}},
                                                             {"overlay", {0, 1, 2, 3, 6, 11, 12}},
                                                             {"handheld", {0, 1, 6, 7, 8, 9, 11}},
                                                             {"any_pair", {0, 1, 2, 3, 6, 7, 8, 11}},
                                                             {"thin", {0, 1, 2, 3, 6, 10, 11}}};
-  for (auto &[call, numbers] : wanted)
-    for (uint32_t number : numbers)
-      if (!seen[call][number]) {
-        std::printf("differential: %s: no refusal %u in %llu rounds\n", call.c_str(), number, (unsigned long long)rounds);
-        return 1;
-      }
-  for (auto &[call, counts] : seen) {
-    std::printf("differential: %s:", call.c_str());
-    for (auto &[number, count] : counts) std::printf(" %u:%llu", number, (unsigned long long)count);
+  bool all = true;
+  std::printf("differential: %llu %s graphs alike; answers (0) and refusals by number:\n", (unsigned long long)rounds, small ? "small" : "larger");
+  for (auto &[call, numbers] : wanted) {
+    std::printf("  %-8s", call.c_str());
+    for (uint32_t number : numbers) {
+      std::printf(" %u:%llu", number, (unsigned long long)seen[call][number]);
+      all = all && seen[call][number] > 0;
+    }
     std::printf("\n");
   }
-  std::printf("differential: %llu rounds alike\n", (unsigned long long)rounds);
-  return 0;
+  if (!all) std::printf("differential: a number was never told\n");
+  return all;
+}
+
+int main(int argc, char **argv) {
+  if (argc < 2) return 2;
+  const double seconds = std::atof(argv[1]);
+  draw.seed(argc > 2 ? std::strtoull(argv[2], nullptr, 10) : 1);
+  // A graph on which pruning never ends must not hold up the tests.
+  alarm(unsigned(seconds) + 300);
+  small = true;
+  bool all = run(seconds / 2, small_round);
+  small = false;
+  all = run(seconds / 2, larger_round) && all;
+  return all ? 0 : 1;
 }

@@ -1,30 +1,12 @@
 // The five calls once more, written from the rules alone and meant for small graphs: simple paths are
 // listed one by one, and least weights come from all triples of nodes.
 #pragma once
+#include "graph.hpp"
 #include <algorithm>
-#include <cstdint>
-#include <optional>
-#include <vector>
 
 namespace reference {
 
-using Nodes = std::vector<uint32_t>;
-using Bytes = std::vector<uint8_t>;
-using Longs = std::vector<uint64_t>;
-
-struct Graph {
-  Nodes starts, heads, weights;
-};
-
-struct Count {
-  uint32_t refusal = 0;
-  size_t count = 0;
-};
-
-struct Distance {
-  uint32_t refusal = 0;
-  std::optional<uint64_t> weight;
-};
+using namespace graphs;
 
 // Refusals 1, 2 and 3 under the limits, or 0.
 inline uint32_t graph_fault(const Graph &g, size_t most_arcs, uint64_t most_weight) {
@@ -79,7 +61,7 @@ inline bool needed(const Graph &g, const Bytes &kept, uint32_t v, size_t k, Node
   return false;
 }
 
-inline Count cover(const Graph &g, size_t k, const Nodes &order, Bytes &points, const std::vector<std::pair<size_t, size_t>> &lengths) {
+inline Count cover(const Graph &g, size_t k, const Nodes &order, Bytes &points, const Lengths &lengths) {
   if (uint32_t f = road_fault(g)) return {f, 0};
   size_t n = g.starts.size() - 1;
   if (k == 0 || k > 32) return {4, 0};
@@ -121,15 +103,13 @@ inline std::vector<bool> outside(const Bytes &set) {
   return o;
 }
 
-// `o` holds the lent starts and rooms, and afterwards what they hold then; `zeroed` tells whether the work is zero.
-inline Count overlay(const Graph &g, const Bytes &set, Graph &o, const std::vector<std::pair<size_t, size_t>> &lengths, bool &zeroed) {
-  zeroed = false;
+// `o` holds the lent starts and rooms, and afterwards what they hold then.
+inline Count overlay(const Graph &g, const Bytes &set, Graph &o, const Lengths &lengths) {
   if (uint32_t f = road_fault(g)) return {f, 0};
   size_t n = g.starts.size() - 1;
   if (set_fault(set, n)) return {6, 0};
   for (auto [given, asked] : lengths)
     if (given != asked) return {11, 0};
-  zeroed = true;
   Table d = least(g, outside(set));
   Graph made;
   for (uint32_t a = 0; a < n; a++) {
@@ -148,7 +128,7 @@ inline Count overlay(const Graph &g, const Bytes &set, Graph &o, const std::vect
   return {0, made.heads.size()};
 }
 
-inline Distance handheld(const Bytes &set, const Graph &o, uint32_t s, uint32_t t, const std::vector<std::pair<size_t, size_t>> &lengths) {
+inline Distance handheld(const Bytes &set, const Graph &o, uint32_t s, uint32_t t, const Lengths &lengths) {
   if (set.empty() || set.size() > 4096) return {1, {}};
   if (set_fault(set, set.size())) return {6, {}};
   if (overlay_fault(set, o)) return {7, {}};
@@ -159,7 +139,7 @@ inline Distance handheld(const Bytes &set, const Graph &o, uint32_t s, uint32_t 
   return {0, least(o, std::vector<bool>(set.size(), true))[s][t]};
 }
 
-inline Distance any_pair(const Graph &g, const Bytes &set, const Graph &o, uint32_t s, uint32_t t, const std::vector<std::pair<size_t, size_t>> &lengths) {
+inline Distance any_pair(const Graph &g, const Bytes &set, const Graph &o, uint32_t s, uint32_t t, const Lengths &lengths) {
   if (uint32_t f = road_fault(g)) return {f, {}};
   size_t n = g.starts.size() - 1;
   if (set_fault(set, n)) return {6, {}};

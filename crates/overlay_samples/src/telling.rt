@@ -16,7 +16,7 @@ fn row(label: &[u8], s: &[u32]) {
 // The entry at a place, where there is one.
 fn at(s: &[u32], i: usize) {
     if i < s.len() {
-        number(b" ", s[i] as u64);
+        entries(s, i, i + 1);
     }
 }
 
