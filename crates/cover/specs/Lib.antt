@@ -1,2 +1,3 @@
 -- The cover call.
+pub mod Counting
 pub mod Calls

@@ -14,6 +14,7 @@ ghost use lib.ListN.{length, set};
 ghost use Rattle.paths.specs.Lists.{Each};
 ghost use Rattle.road.specs.Refusals.{Tells};
 ghost use Rattle.road.specs.Roads.{road};
+ghost use Rattle.cover.specs.Counting.{Few};
 ghost use Rattle.pieces.specs.Pieces.{Fits, Kept};
 ghost use Rattle.rule.specs.Rule.{Needed, PathOf, Prunes, Took};
 ghost use Rattle.pieces.specs.Steps.{OfK, Prunable};
@@ -55,7 +56,29 @@ fn is_needed(
     )
 }
 
-// Whether v cannot be dropped, where its size would be r: a size below k tells it without a search.
+// Whether the dropped nodes and one more are fewer than k. Counting ends once they are not.
+fn too_few(cover: &[u8], k: NodeCount) -> bool
+    ensures { λ r. ⌜ Few r (now (cover .entry)) (k .0) ⌝ }
+{
+    let mut nodes = 1;
+    let mut i = 0;
+    while i < cover.len() {
+        if k.0 <= nodes {
+            return false;
+        }
+        if cover[i] == 0 {
+            nodes += 1;
+        }
+        i += 1;
+    }
+    if nodes < k.0 {
+        return true;
+    }
+    false
+}
+
+// Whether v cannot be dropped, where its size would be r. A size below k tells it without a search,
+// and so do too few dropped nodes.
 fn stays(
     starts: &[u32],
     heads: &[u32],
@@ -76,6 +99,9 @@ fn stays(
     ensures { λ b. ⌜ Tells b (Needed (PathOf (road (now (starts .entry)) (now (heads .entry)) (now (weights .entry))) (k .0)) (now (cover .entry)) v) ⌝ }
 {
     if r.0 < k.0 {
+        return false;
+    }
+    if too_few(cover, k) {
         return false;
     }
     is_needed(

@@ -1,0 +1,75 @@
+use Rattle.road.proofs.Counting.{times-met, times-missed}
+use Rattle.road.specs.Counting.{times}
+use Rattle.cover.proofs.Counted.{enough, counted-few}
+use lib.ListN.{length, take}
+use mathlib.Core.Logic.{⊎-elim}
+use mathlib.Core.Path.{_≡_}
+use native.Mathlib.Omega.{arith}
+use Prim.Native.Nat.{_+_, _-_, _≤_}
+use borrow.Author.Needs.{needs}
+use Rattle.cover.proofs.pruning.too_few.Statement.{statement}
+use Rattle.cover.proofs.pruning.too_few.Tie as tie
+use Rattle.cover.proofs.pruning.too_few.Reads as reads
+use Rattle.cover.proofs.pruning.too_few.Lts as lts
+
+abbrev Inv-loop : tie.InvT-loop
+Inv-loop cover k nodes₀ i₀ nodes i = (nodes ≡ times 0 (take i cover) + 1) × (i ≤ length cover) × (nodes ≤ i + 1)
+
+abbrev μ-loop : tie.MeasureT-loop
+μ-loop cover k nodes₀ i₀ nodes i = length cover - i
+
+-- src/pruning.rt:65:5
+loop-holds : tie.Need-loop-holds Inv-loop μ-loop
+loop-holds c = (omega arith, omega arith, omega arith)
+
+-- src/pruning.rt:67:13
+returns : tie.Need-returns Inv-loop μ-loop
+returns c = enough (c .before .before .before .before .args .cover .now) (c .before .before .before .before .args .k .0)
+
+-- src/pruning.rt:69:12
+shared-slice-read-if2 : tie.Need-shared-slice-read-if2 Inv-loop μ-loop
+shared-slice-read-if2 c = search needs
+
+-- src/pruning.rt:70:13
+add-nodes : tie.Need-add-nodes Inv-loop μ-loop
+add-nodes c = search needs
+
+-- src/pruning.rt:72:9
+add-i : tie.Need-add-i Inv-loop μ-loop
+add-i c = search needs
+
+-- src/pruning.rt:65:5
+loop-less : tie.Need-loop-less Inv-loop μ-loop
+loop-less c = search needs
+
+-- src/pruning.rt:65:5
+loop-again : tie.Need-loop-again Inv-loop μ-loop
+loop-again c =
+    ⊎-elim
+    (λ w. (omega (arith, c .before .before .before .before .before .loop .inv .0, times-met (c .before .before .before .before .before .before .args .cover .now) (c .before .before .before .before .before .loop .i) 0 (c .before .before .before .before .loop-test .taken) (w .0 .taken)), omega arith, omega arith))
+    (λ w. (omega (arith, c .before .before .before .before .before .loop .inv .0, times-missed (c .before .before .before .before .before .before .args .cover .now) (c .before .before .before .before .before .loop .i) 0 (c .before .before .before .before .loop-test .taken) (w .0 .left)), omega arith, omega arith))
+    (c .if2 .came)
+
+-- src/pruning.rt:75:9
+returns-2 : tie.Need-returns-2 Inv-loop μ-loop
+returns-2 c = counted-few (c .before .before .before .before .args .cover .now) (c .before .before .before .before .args .k .0) (c .before .before .before .loop .nodes) (c .before .before .before .loop .i) (c .before .before .before .loop .inv .0) (omega (arith, c .before .before .loop-test .left)) (c .if3 .taken)
+
+-- src/pruning.rt:60:1
+returns-3 : tie.Need-returns-3 Inv-loop μ-loop
+returns-3 c = enough (c .before .before .before .before .args .cover .now) (c .before .before .before .before .args .k .0)
+
+pub too-few-spec : {M : Type 1} → statement M
+too-few-spec =
+    tie.close
+    (tie.spec
+    Inv-loop
+    μ-loop
+    loop-holds
+    returns
+    shared-slice-read-if2
+    add-nodes
+    add-i
+    loop-less
+    loop-again
+    returns-2
+    returns-3)
