@@ -1,3 +1,5 @@
 pub mod Saids
-pub mod Laying
 pub mod Fitting
+pub mod Laying
+pub mod Standing
+pub mod Judging

@@ -249,7 +249,7 @@ small-twos : (l : List ℕ) → Each (λ (x : ℕ). x < 256) (twos l)
 small-twos [] = tt
 small-twos (x ∷ l) = (omega arith, (omega arith, small-twos l))
 
-small-bytes : (f : Frame) → Each (λ (x : ℕ). x < 256) (bytesOf f)
+pub small-bytes : (f : Frame) → Each (λ (x : ℕ). x < 256) (bytesOf f)
 small-bytes (head n m k) = (omega arith, (omega arith, (omega arith, (omega arith, (omega arith, (omega arith, tt))))))
 small-bytes (arc t h w) =
     (omega arith, (omega arith, (omega arith, (omega arith, (omega arith, (omega arith, (omega arith, (omega arith, (omega arith, tt)))))))))

@@ -1,4 +1,3 @@
-use Rattle.frames.proofs.Fitting.{lengths-set}
 use borrow.Author.Needs.{needs}
 use Rattle.frames.proofs.steps.take_arc.Statement.{statement}
 use Rattle.frames.proofs.steps.take_arc.Tie as tie
@@ -78,45 +77,45 @@ returns-2 c = search needs
 
 -- src/steps.rt:263:5
 complete-requires : tie.Need-complete-requires
-complete-requires c κs = ((c .before .before .before .before .before .before .before .before .before .before .before .before .before .before .before .before .before .before .before .before .before .before .before .before .before .before .pre .0 .0, c .before .before .before .before .before .before .before .before .before .before .before .before .before .before .before .before .before .before .before .before .before .before .before .before .before .before .pre .0 .1), (lengths-set (c .before .before .before .before .before .before .before .before .before .before .before .before .before .before .before .before .before .before .before .before .before .before .before .before .before .before .args .tails .now) (c .before .before .before .before .before .before .before .before .before .before .before .before .before .before .before .before .before .before .before .before .before .before .before .before .before .before .args .heads .now) (c .before .before .before .before .before .before .before .before .before .before .before .before .before .before .before .before .before .before .before .before .before .before .before .before .before .before .args .weights .now) (c .before .before .before .before .before .before .before .before .before .before .before .before .before .before .before .before .before .before .before .before .before .before .before .before .before .before .args .starts .now) (c .before .before .before .before .before .before .before .before .before .before .before .before .before .before .before .before .before .before .before .before .before .before .before .before .before .before .args .set .now) (c .before .before .before .before .before .before .before .before .before .before .before .before .before .before .before .before .before .before .before .before .before .before .before .before .before .before .args .over-starts .now) (c .before .before .before .before .before .before .before .before .before .before .before .before .before .before .before .before .before .before .before .before .before .before .before .before .before .before .args .over-heads .now) (c .before .before .before .before .before .before .before .before .before .before .before .before .before .before .before .before .before .before .before .before .before .before .before .before .before .before .args .over-weights .now) (c .before .before .before .before .before .before .before .before .before .before .before .before .before .before .before .before .before .before .before .before .before .before .before .before .before .before .pre .1 .0) _ _ _ _, (c .before .before .before .before .before .before .before .before .before .before .before .before .before .before .before .before .before .before .before .before .before .before .before .before .before .before .pre .1 .1 .0, c .before .before .before .before .before .before .before .before .before .before .before .before .before .before .before .before .before .before .before .before .before .before .before .before .before .before .pre .1 .1 .1)))
+complete-requires c κs = search needs
 
--- src/steps.rt:216:1
+-- src/steps.rt:215:1
 same-length-6 : tie.Need-same-length-6
 same-length-6 c = search needs
 
--- src/steps.rt:216:1
+-- src/steps.rt:215:1
 same-length-7 : tie.Need-same-length-7
 same-length-7 c = search needs
 
--- src/steps.rt:216:1
+-- src/steps.rt:215:1
 same-length-8 : tie.Need-same-length-8
 same-length-8 c = search needs
 
--- src/steps.rt:216:1
+-- src/steps.rt:215:1
 same-length-9 : tie.Need-same-length-9
 same-length-9 c = search needs
 
--- src/steps.rt:216:1
+-- src/steps.rt:215:1
 same-length-10 : tie.Need-same-length-10
 same-length-10 c = search needs
 
--- src/steps.rt:216:1
+-- src/steps.rt:215:1
 same-length-11 : tie.Need-same-length-11
 same-length-11 c = search needs
 
--- src/steps.rt:216:1
+-- src/steps.rt:215:1
 same-length-12 : tie.Need-same-length-12
 same-length-12 c = search needs
 
--- src/steps.rt:216:1
+-- src/steps.rt:215:1
 same-length-13 : tie.Need-same-length-13
 same-length-13 c = search needs
 
--- src/steps.rt:216:1
+-- src/steps.rt:215:1
 same-length-14 : tie.Need-same-length-14
 same-length-14 c = search needs
 
--- src/steps.rt:216:1
+-- src/steps.rt:215:1
 returns-3 : tie.Need-returns-3
 returns-3 c = search needs
 

@@ -1,0 +1,51 @@
+use borrow.Author.Needs.{needs}
+use Rattle.frames.proofs.steps.falls.Statement.{statement}
+use Rattle.frames.proofs.steps.falls.Tie as tie
+use Rattle.frames.proofs.steps.falls.Reads as reads
+use Rattle.frames.proofs.steps.falls.Lts as lts
+use Rattle.road.proofs.wide.Reads as wide-reads
+
+-- src/steps.rt:202:15
+wide-requires : tie.Need-wide-requires
+wide-requires c κs = search needs
+
+-- src/steps.rt:203:9
+returns : tie.Need-returns
+returns c = search needs
+
+-- src/steps.rt:206:9
+returns-2 : tie.Need-returns-2
+returns-2 c = search needs
+
+-- src/steps.rt:208:21
+sub-if3 : tie.Need-sub-if3
+sub-if3 c = search needs
+
+-- src/steps.rt:208:15
+mul-if3 : tie.Need-mul-if3
+mul-if3 c = search needs
+
+-- src/steps.rt:208:15
+shared-slice-read-if3 : tie.Need-shared-slice-read-if3
+shared-slice-read-if3 c = search needs
+
+-- src/steps.rt:209:9
+returns-3 : tie.Need-returns-3
+returns-3 c = search needs
+
+-- src/steps.rt:198:1
+returns-4 : tie.Need-returns-4
+returns-4 c = search needs
+
+pub falls-spec : {M : Type 1} → statement M
+falls-spec =
+    tie.close
+    (tie.spec
+    wide-requires
+    returns
+    returns-2
+    sub-if3
+    mul-if3
+    shared-slice-read-if3
+    returns-3
+    returns-4)

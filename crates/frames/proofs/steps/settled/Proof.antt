@@ -1,0 +1,21 @@
+use borrow.Author.Needs.{needs}
+use Rattle.frames.proofs.steps.settled.Statement.{statement}
+use Rattle.frames.proofs.steps.settled.Tie as tie
+use Rattle.frames.proofs.steps.settled.Reads as reads
+use Rattle.frames.proofs.steps.settled.Lts as lts
+use Rattle.frames.proofs.steps.stopped.Reads as stopped-reads
+
+-- src/steps.rt:80:9
+returns : tie.Need-returns
+returns c = search needs
+
+-- src/steps.rt:90:5
+stopped-requires : tie.Need-stopped-requires
+stopped-requires c κs = search needs
+
+-- src/steps.rt:74:1
+returns-2 : tie.Need-returns-2
+returns-2 c = search needs
+
+pub settled-spec : {M : Type 1} → statement M
+settled-spec = tie.close (tie.spec returns stopped-requires returns-2)
