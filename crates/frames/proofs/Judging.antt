@@ -5,6 +5,8 @@ use mathlib.Core.List.{List, [], _∷_, _++_}
 use Prim.Native.Nat.{ℕ, zero, suc, _+_, _-_, _/_, _%_, _≤_, _<_, _^_}
 use native.Mathlib.Omega.{arith}
 use borrow.Rule.Slice.PartMut.{midOf}
+use denote.Enum.Declared.{tagOf}
+use types.Run.{OneOf, miss}
 use lib.ListN.{length, getD, set, take, drop, length-append}
 use lib.Seq.{length-take-le, take-at, take-suc-set}
 use Rattle.road.specs.declared.ArcCount.{ArcCount}
@@ -16,6 +18,7 @@ use Rattle.hexlines.specs.Writers.{Wrote}
 use Rattle.maps.specs.Lists.{startsOf}
 use Rattle.readings.proofs.Shapes.{small-bytes}
 use Rattle.readings.proofs.Texts.{text-one}
+use Rattle.readings.proofs.Line as Told-line
 use Rattle.readings.specs.declared.Line.{Line}
 use Rattle.readings.specs.declared.Line.the-variants.{Head, Arc, Question, Drive, Wrong}
 use Rattle.readings.specs.Frames.{Frame, head, arc, question, drive, bytesOf, Fits, ReadAs, Reads, Tells}
@@ -23,9 +26,10 @@ use Rattle.frames.specs.declared.State.{State}
 use Rattle.frames.specs.declared.Phase.{Phase}
 use Rattle.frames.specs.declared.Phase.the-variants.{Begun, Loading, Asking, Stopped}
 use Rattle.frames.specs.Held.{Answered, Good, Printed, Thinned, stageIf}
-use Rattle.frames.specs.Stages.{Areas, Falls, Judged, Left, Says, due, mapOf, stage, undue}
+use Rattle.frames.specs.Stages.{Areas, Falls, Judged, Left, Says, TookLine, areas, due, goes, loadingIn, mapOf, stage, undue}
 use Rattle.frames.specs.Steps.{Map, Stage, Builds, Does, Due, Loads, Runs, Step, line, begun, loading, asking, stopped, more, complete, first, next, asked, driven, begins, loads, answers, thins, wrong, taken, refusedBy}
 use Rattle.frames.proofs.Fitting.{front}
+use Rattle.frames.proofs.Standing.{left-as, runs}
 
 -- one arc more at the front of its area
 grown : (l : List ℕ) (count x : ℕ) → count < length l → take (count + 1) (set l count x) ≡ take count l ++ (x ∷ [])
@@ -76,6 +80,36 @@ module _ (ℓ n m k count : ℕ) (tails heads weights : List ℕ) (t h w : ℕ) 
         arc-loads x o
         (complete (omega (arith, grown-size))
         (coe 0 1 (i. Builds ℓ (startsOf n (take (q i) (set tails count t))) (take (q i) (set heads count h)) (take (q i) (set weights count w)) k x o) b))
+
+-- the state and the areas after an arc with more to come
+pub arc-loaded :
+    (ℓ : ℕ) (s : State) (A : Areas) (t h w : ℕ) (falls : Bool) (out : List ℕ) (at : ℕ) → Falls falls (s .n .0) t (take (s .count .0) (A .tails)) → falls ≡ false →
+    (s .n .0 ≤ 512) × (s .m .0 ≤ 2048) × (s .count .0 < s .m .0) → s .count .0 < length (A .tails) → s .count .0 < length (A .heads) →
+    s .count .0 < length (A .weights) → ℓ ≤ 65535 → ℓ ≡ s .count .0 + 2 → s .count .0 + 1 < s .m .0 → at ≤ length out →
+    Left (Judged ℓ (loadingIn s A) (Arc t h w) []) ℓ
+    (record {
+      phase = Loading;
+      lines = ℓ;
+      n = s .n;
+      m = s .m;
+      k = s .k;
+      count = record { 0 = s .count .0 + 1 };
+      over = record { 0 = 0 };
+    })
+    (areas (set (A .tails) (s .count .0) t) (set (A .heads) (s .count .0) h) (set (A .weights) (s .count .0) w) (A .starts) (A .chosen) (A .over-starts)
+    (A .over-heads) (A .over-weights))
+    out at out at
+arc-loaded ℓ s A t h w falls out at f e b i₁ i₂ i₃ few is z r =
+    record {
+      printed =
+          record {
+            outs = [];
+            does = arc-more ℓ (s .n .0) (s .m .0) (s .k .0) (s .count .0) (A .tails) (A .heads) (A .weights) t h w falls f e i₁ i₂ i₃ z;
+            wrote = wrote-none out at r;
+          };
+      good = record { lines = few; nodes = b .0; arcs = b .1; counted = (omega arith, z); over = omega arith };
+      lines = λ q. refl;
+    }
 
 -- questions and drives are asked of the fronts
 pub question-asked :
@@ -151,6 +185,77 @@ module _ (ℓ : ℕ) (read : Line) (nodes : List ℕ) where
               (due refl driven (thins (p .does M refl refl refl refl)));
           wrote = p .wrote;
         }
+
+-- which kinds of frames may come
+abbrev Apt : Stage → Frame → Type 0
+Apt begun (head n m k) = Unit {0}
+Apt begun (arc t h w) = ⊥
+Apt begun (question a b) = ⊥
+Apt begun (drive l) = ⊥
+Apt (loading n m k tails heads weights) (head n′ m′ k′) = ⊥
+Apt (loading n m k tails heads weights) (arc t h w) = Unit {0}
+Apt (loading n m k tails heads weights) (question a b) = ⊥
+Apt (loading n m k tails heads weights) (drive l) = ⊥
+Apt (asking M) (head n m k) = ⊥
+Apt (asking M) (arc t h w) = ⊥
+Apt (asking M) (question a b) = Unit {0}
+Apt (asking M) (drive l) = Unit {0}
+Apt stopped f = ⊥
+
+apt : {s : Stage} {f : Frame} → Due s f → Apt s f
+apt first = tt
+apt (next a b) = tt
+apt asked = tt
+apt driven = tt
+
+apt-as : (s : Stage) {f : Frame} (g : Frame) → f ≡ g → Due s f → Apt s g
+apt-as s g q d = subst (Apt s) q (apt d)
+
+-- the frame that is told is of another kind
+pub not-head :
+    (ℓ : ℕ) (read : Line) (nodes : List ℕ) → OneOf (1 ∷ 2 ∷ 3 ∷ 4 ∷ []) (tagOf Told-line.the-type read) →
+    Judged ℓ begun read nodes stopped (refusedBy R.Line ℓ)
+not-head ℓ read nodes o = undue (none read o)
+  where
+    none : (read : Line) → OneOf (1 ∷ 2 ∷ 3 ∷ 4 ∷ []) (tagOf Told-line.the-type read) → (f : Frame) → Says read nodes f → Due begun f → ⊥
+    none (Head n m k) o f q d = miss (1 ∷ 2 ∷ 3 ∷ 4 ∷ []) 0 tt o
+    none (Arc t h w) o f q d = apt-as begun (arc t h w) q d
+    none (Question a b) o f q d = apt-as begun (question a b) q d
+    none (Drive count) o f q d = apt-as begun (drive (take count nodes)) q d
+    none Wrong o f q d = q
+
+pub not-arc :
+    (ℓ : ℕ) (s : State) (A : Areas) (read : Line) (nodes : List ℕ) → OneOf (0 ∷ 2 ∷ 3 ∷ 4 ∷ []) (tagOf Told-line.the-type read) →
+    Judged ℓ (loadingIn s A) read nodes stopped (refusedBy R.Line ℓ)
+not-arc ℓ s A read nodes o = undue (none read o)
+  where
+    none : (read : Line) → OneOf (0 ∷ 2 ∷ 3 ∷ 4 ∷ []) (tagOf Told-line.the-type read) → (f : Frame) → Says read nodes f → Due (loadingIn s A) f → ⊥
+    none (Head n m k) o f q d = apt-as (loadingIn s A) (head (n .0) (m .0) (k .0)) q d
+    none (Arc t h w) o f q d = miss (0 ∷ 2 ∷ 3 ∷ 4 ∷ []) 1 tt o
+    none (Question a b) o f q d = apt-as (loadingIn s A) (question a b) q d
+    none (Drive count) o f q d = apt-as (loadingIn s A) (drive (take count nodes)) q d
+    none Wrong o f q d = q
+
+pub not-asked :
+    (ℓ : ℕ) (read : Line) (nodes : List ℕ) (M : Map) (good : Bool) (over : ℕ) (out : List ℕ) (at : ℕ) (out′ : List ℕ) (at′ : ℕ) →
+    OneOf (0 ∷ 1 ∷ 3 ∷ 4 ∷ []) (tagOf Told-line.the-type read) → OneOf (0 ∷ 1 ∷ 2 ∷ 4 ∷ []) (tagOf Told-line.the-type read) →
+    (good ≡ false) × (Wrote out at (textOf (refusedBy R.Line ℓ)) out′ at′) × (over ≡ 0) →
+    Printed (Judged ℓ (asking M) read nodes) (stageIf good M) out at out′ at′
+not-asked ℓ read nodes M good over out at out′ at′ o p w =
+    record {
+      outs = refusedBy R.Line ℓ;
+      does = subst (λ (g : Bool). Judged ℓ (asking M) read nodes (stageIf g M) (refusedBy R.Line ℓ)) (sym (w .0)) (undue (none read o p));
+      wrote = w .1;
+    }
+  where
+    none :
+        (read : Line) → OneOf (0 ∷ 1 ∷ 3 ∷ 4 ∷ []) (tagOf Told-line.the-type read) → OneOf (0 ∷ 1 ∷ 2 ∷ 4 ∷ []) (tagOf Told-line.the-type read) →
+        (f : Frame) → Says read nodes f → Due (asking M) f → ⊥
+    none (Head n m k) o p f q d = apt-as (asking M) (head (n .0) (m .0) (k .0)) q d
+    none (Arc t h w) o p f q d = apt-as (asking M) (arc t h w) q d
+    none (Question a b) o p f q d = miss (0 ∷ 1 ∷ 3 ∷ 4 ∷ []) 2 tt o
+    none (Drive count) o p f q d = miss (0 ∷ 1 ∷ 2 ∷ 4 ∷ []) 3 tt p
+    none Wrong o p f q d = q
 
 -- two frames of one text are alike in whether they may come
 head-due : {s : Stage} {n m k n′ m′ k′ : ℕ} → Due s (head n m k) → Due s (head n′ m′ k′)
@@ -236,3 +341,15 @@ module _ (bytes : List ℕ) (nodes nodes′ : List ℕ) where
       (x : Stage) (o : List Out) → Judged ℓ s told nodes′ x o → Step ℓ s (line bytes) x o
   judged-step long ℓ s told h b r x o j =
       judged-steps ℓ s told x o (subst (λ (room : ℕ). Tells (ReadAs room bytes) told nodes nodes′) long (h .tells)) b r j
+
+-- a line is taken in the stage x
+pub line-taken :
+    (s : State) (A : Areas) (bytes nodes nodes′ : List ℕ) (x : Stage) (told : Line) (s′ : State) (A′ : Areas) (out : List ℕ) (at : ℕ) (out′ : List ℕ) (at′ : ℕ) →
+    stage s A ≡ x → goes (s .phase) ≡ true → s .lines + 1 ≤ 65535 → Reads bytes told nodes nodes′ → length nodes ≡ 64 →
+    Left (Judged (s .lines + 1) x told nodes′) (s .lines + 1) s′ A′ out at out′ at′ → TookLine s A bytes s′ A′ out at out′ at′
+line-taken s A bytes nodes nodes′ x told s′ A′ out at out′ at′ e go few reads long l =
+    left-as (Judged (s .lines + 1) x told nodes′) (s .lines + 1) s′ A′ out at out′ at′ (Step (s .lines + 1) (stage s A) (line bytes))
+    (λ y o j.
+    judged-step bytes nodes nodes′ long (s .lines + 1) (stage s A) told reads few (runs s A go) y o
+    (subst (λ (z : Stage). Judged (s .lines + 1) z told nodes′ y o) (sym e) j))
+    l

@@ -71,7 +71,14 @@ fn stopped(line: usize) -> State
 }
 
 // The program goes on with the map that it has, or stops.
-fn settled(good: bool, line: usize, n: NodeCount, m: ArcCount, k: NodeCount, over: ArcCount) -> State
+fn settled(
+    good: bool,
+    line: usize,
+    n: NodeCount,
+    m: ArcCount,
+    k: NodeCount,
+    over: ArcCount,
+) -> State
     requires { ⌜ line ≤ 65535 ⌝ }
     requires { ⌜ (n .0 ≤ 512) × (m .0 ≤ 2048) × (over .0 ≤ 4096) ⌝ }
     ensures { λ r. ⌜ Settled good line (n .0) (m .0) (over .0) r ⌝ }

@@ -4,6 +4,7 @@ use Rattle.frames.proofs.steps.take_drive.Tie as tie
 use Rattle.frames.proofs.steps.take_drive.Reads as reads
 use Rattle.frames.proofs.steps.take_drive.Lts as lts
 use Rattle.frames.proofs.answering.answer_drive.Reads as answer-drive-reads
+use Rattle.frames.proofs.Judging.{drive-driven}
 
 -- src/steps.rt:343:13
 add-e : tie.Need-add-e
@@ -91,7 +92,7 @@ same-length c = search needs
 
 -- src/steps.rt:323:1
 returns : tie.Need-returns
-returns c = search needs
+returns c = drive-driven _ (c .before .before .before .before .before .before .before .before .before .before .before .before .before .before .before .before .before .args .s .n .0) (c .before .before .before .before .before .before .before .before .before .before .before .before .before .before .before .before .before .args .s .m .0) (c .before .before .before .before .before .before .before .before .before .before .before .before .before .before .before .before .before .args .count) (c .before .before .before .before .before .before .before .before .before .before .before .before .before .before .before .before .before .args .starts .now) (c .before .before .before .before .before .before .before .before .before .before .before .before .before .before .before .before .before .args .heads .now) (c .before .before .before .before .before .before .before .before .before .before .before .before .before .before .before .before .before .args .weights .now) (c .before .before .before .before .before .before .before .before .before .before .before .before .before .before .before .before .before .args .set .now) (c .before .before .before .before .before .before .before .before .before .before .before .before .before .before .before .before .before .args .nodes .now) _ _ _ _ _ (c .before .before .before .answer-drive .ensures)
 
 pub take-drive-spec : {M : Type 1} → statement M
 take-drive-spec =

@@ -4,6 +4,7 @@ use Rattle.frames.proofs.steps.take_question.Tie as tie
 use Rattle.frames.proofs.steps.take_question.Reads as reads
 use Rattle.frames.proofs.steps.take_question.Lts as lts
 use Rattle.frames.proofs.answering.answer_question.Reads as answer-question-reads
+use Rattle.frames.proofs.Judging.{question-asked}
 
 -- src/steps.rt:305:13
 add-e : tie.Need-add-e
@@ -103,7 +104,7 @@ same-length c = search needs
 
 -- src/steps.rt:282:1
 returns : tie.Need-returns
-returns c = search needs
+returns c = question-asked _ (c .before .before .before .before .before .before .before .before .before .before .before .before .before .before .before .before .before .before .before .args .s .n .0) (c .before .before .before .before .before .before .before .before .before .before .before .before .before .before .before .before .before .before .before .args .s .m .0) (c .before .before .before .before .before .before .before .before .before .before .before .before .before .before .before .before .before .before .before .args .s .over .0) (c .before .before .before .before .before .before .before .before .before .before .before .before .before .before .before .before .before .before .before .args .starts .now) (c .before .before .before .before .before .before .before .before .before .before .before .before .before .before .before .before .before .before .before .args .heads .now) (c .before .before .before .before .before .before .before .before .before .before .before .before .before .before .before .before .before .before .before .args .weights .now) (c .before .before .before .before .before .before .before .before .before .before .before .before .before .before .before .before .before .before .before .args .set .now) (c .before .before .before .before .before .before .before .before .before .before .before .before .before .before .before .before .before .before .before .args .over-starts .now) (c .before .before .before .before .before .before .before .before .before .before .before .before .before .before .before .before .before .before .before .args .over-heads .now) (c .before .before .before .before .before .before .before .before .before .before .before .before .before .before .before .before .before .before .before .args .over-weights .now) _ _ (c .before .before .answer-question .result .good) _ _ _ _ (c .before .before .answer-question .ensures)
 
 pub take-question-spec : {M : Type 1} → statement M
 take-question-spec =

@@ -4,6 +4,8 @@ use Rattle.frames.proofs.steps.take_unended.Tie as tie
 use Rattle.frames.proofs.steps.take_unended.Reads as reads
 use Rattle.frames.proofs.steps.take_unended.Lts as lts
 use Rattle.frames.proofs.steps.stop.Reads as stop-reads
+use Rattle.frames.proofs.Standing.{unended-beyond, unended-cut}
+use native.Mathlib.Omega.{arith}
 
 -- src/steps.rt:587:16
 add-line : tie.Need-add-line
@@ -19,7 +21,7 @@ same-length c = search needs
 
 -- src/steps.rt:589:9
 returns : tie.Need-returns
-returns c = search needs
+returns c = unended-beyond _ _ _ _ _ _ (c .before .before .before .before .before .before .before .pre .0) (c .before .before .before .before .if1 .taken) (c .before .before .stop .ensures)
 
 -- src/steps.rt:591:5
 stop-requires-2 : tie.Need-stop-requires-2
@@ -31,7 +33,7 @@ same-length-2 c = search needs
 
 -- src/steps.rt:581:1
 returns-2 : tie.Need-returns-2
-returns-2 c = search needs
+returns-2 c = unended-cut _ _ _ _ _ _ (c .before .before .before .before .before .before .before .pre .0) (omega (arith, c .before .before .before .before .if1 .left)) (c .before .before .stop2 .ensures)
 
 pub take-unended-spec : {M : Type 1} → statement M
 take-unended-spec =
