@@ -591,7 +591,8 @@ pub fn take_unended(s: State, out: &mut [u8], at: usize) -> Taken
     requires { ⌜ at + 9 ≤ length (now out) ⌝ }
     ensures { λ r. ⌜ TookUnended s (r .state) (now (out .entry)) at (now (out .exit)) (r .at) ⌝ }
 {
-    let line = s.lines + 1;
+    let lines = s.lines;
+    let line = lines + 1;
     if 65535 < line {
         return stop(65535, out, at);
     }
