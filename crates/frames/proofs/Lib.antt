@@ -3,3 +3,4 @@ pub mod Fitting
 pub mod Laying
 pub mod Standing
 pub mod Judging
+pub mod Cuts
