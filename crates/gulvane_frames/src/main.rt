@@ -34,7 +34,7 @@ pub struct Piece {
 }
 
 // Moves bytes from the chunk to the line, up to a line feed. No frame has more than 260
-// characters, so that of a longer line the first 261 are enough.
+// characters, so that of a longer line the first 261 are enough (`cut-step` in `frames`).
 fn cut(chunk: &[u8; 65536], used: usize, filled: usize, line: &mut [u8; 261], kept: usize) -> Piece
     requires { ⌜ Cut used filled kept ⌝ }
     ensures { λ r. ⌜ Cut (r .next) filled (r .kept) ⌝ }
