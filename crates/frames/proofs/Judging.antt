@@ -2,7 +2,7 @@
 use mathlib.Core.Path.{_≡_, refl, sym, ap, subst, _∙_}
 use mathlib.Core.Bool.{Bool, true, false}
 use mathlib.Core.List.{List, [], _∷_, _++_}
-use Prim.Native.Nat.{ℕ, zero, suc, _+_, _-_, _/_, _%_, _≤_, _<_, _^_}
+use Prim.Native.Nat.{ℕ, suc, _+_, _-_, _≤_, _<_}
 use native.Mathlib.Omega.{arith}
 use borrow.Rule.Slice.PartMut.{midOf}
 use denote.Enum.Declared.{tagOf}
@@ -23,11 +23,10 @@ use Rattle.readings.specs.declared.Line.{Line}
 use Rattle.readings.specs.declared.Line.the-variants.{Head, Arc, Question, Drive, Wrong}
 use Rattle.readings.specs.Frames.{Frame, head, arc, question, drive, bytesOf, Fits, ReadAs, Reads, Tells}
 use Rattle.frames.specs.declared.State.{State}
-use Rattle.frames.specs.declared.Phase.{Phase}
-use Rattle.frames.specs.declared.Phase.the-variants.{Begun, Loading, Asking, Stopped}
-use Rattle.frames.specs.Held.{Answered, Good, Printed, Thinned, stageIf}
+use Rattle.frames.specs.declared.Phase.the-variants.{Loading}
+use Rattle.frames.specs.Held.{Answered, Printed, Thinned, stageIf}
 use Rattle.frames.specs.Stages.{Areas, Falls, Judged, Left, Says, TookLine, areas, due, goes, loadingIn, mapOf, stage, undue}
-use Rattle.frames.specs.Steps.{Map, Stage, Builds, Does, Due, Loads, Runs, Step, line, begun, loading, asking, stopped, more, complete, first, next, asked, driven, begins, loads, answers, thins, wrong, taken, refusedBy}
+use Rattle.frames.specs.Steps.{Map, Stage, Builds, Due, Loads, Runs, Step, line, begun, loading, asking, stopped, more, complete, first, next, asked, driven, begins, loads, answers, thins, wrong, taken, refusedBy}
 use Rattle.frames.proofs.Fitting.{front}
 use Rattle.frames.proofs.Standing.{left-as, runs}
 

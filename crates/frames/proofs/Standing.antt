@@ -1,23 +1,22 @@
 -- The stage that the state and the areas stand for, after each function.
 use mathlib.Core.Path.{_≡_, refl, sym, ap, subst, _∙_}
 use mathlib.Core.Bool.{Bool, true, false, true≢false}
-use mathlib.Core.List.{List, [], _∷_, _++_}
-use Prim.Native.Nat.{ℕ, zero, suc, _+_, _-_, _≤_, _<_}
+use mathlib.Core.List.{List, []}
+use Prim.Native.Nat.{ℕ, suc, _+_, _-_, _≤_, _<_}
 use native.Mathlib.Omega.{arith}
 use borrow.Rule.Slice.PartMut.{midOf, putMid}
-use lib.ListN.{length, getD, set, take}
-use lib.Seq.{getD-take, length-take-le, take-suc-set}
+use lib.ListN.{length, getD, take}
+use lib.Seq.{getD-take, length-take-le}
 use Rattle.road.specs.declared.ArcCount.{ArcCount}
 use Rattle.road.specs.declared.NodeCount.{NodeCount}
 use Rattle.road.specs.declared.Refusal.the-variants as R
 use Rattle.hexlines.proofs.Growing.{wrote-none}
-use Rattle.hexlines.specs.Outputs.{Out, textOf}
-use Rattle.hexlines.specs.Writers.{Wrote}
+use Rattle.hexlines.specs.Outputs.{Out}
 use Rattle.maps.specs.Lists.{belows, startsOf}
 use Rattle.frames.specs.declared.State.{State}
 use Rattle.frames.specs.declared.Phase.{Phase}
 use Rattle.frames.specs.declared.Phase.the-variants.{Begun, Loading, Asking, Stopped}
-use Rattle.frames.specs.Held.{Answered, Built, Counted, Good, Printed, Thinned, stageIf}
+use Rattle.frames.specs.Held.{Built, Counted, Good, Printed, stageIf}
 use Rattle.frames.specs.Stages.{Areas, Falls, Halted, Left, Settled, TookEnd, TookLine, TookUnended, goes, mapOf, stage, stageBy}
 use Rattle.frames.specs.Steps.{Stage, Builds, Loads, Runs, Step, line, unended, end, stopped, more, complete, beyond, beyond-unended, cut-off, missing-head, missing-arc, good-end, refusedBy}
 use Rattle.frames.proofs.Fitting.{front, front-back, front-size}

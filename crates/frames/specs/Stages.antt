@@ -1,7 +1,7 @@
 -- The stage that the code's state and the lent areas stand for, and what a call leaves.
 use mathlib.Core.Path.{_≡_}
 use mathlib.Core.Bool.{Bool, true, false}
-use mathlib.Core.List.{List, [], _∷_}
+use mathlib.Core.List.{List}
 use Prim.Native.Nat.{ℕ, _+_, _-_, _≤_, _<_}
 use lib.ListN.{length, getD, take}
 use Rattle.road.specs.declared.Refusal.the-variants as R
@@ -14,7 +14,7 @@ use Rattle.frames.specs.declared.State.{State}
 use Rattle.frames.specs.declared.Phase.{Phase}
 use Rattle.frames.specs.declared.Phase.the-variants.{Begun, Loading, Asking, Stopped}
 use Rattle.frames.specs.Held.{Good, Printed, stageIf}
-use Rattle.frames.specs.Steps.{Map, Stage, Input, line, unended, end, begun, loading, asking, stopped, Due, Does, Step, refusedBy}
+use Rattle.frames.specs.Steps.{Map, Stage, line, unended, end, begun, loading, asking, stopped, Due, Does, Step, refusedBy}
 
 -- the areas that are lent
 pub record Areas : Type 0 where

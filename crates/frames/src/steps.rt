@@ -22,7 +22,7 @@ ghost use Rattle.maps.specs.Lists.{startsOf};
 ghost use Rattle.readings.specs.declared.Line.the-variants.{Arc};
 ghost use Rattle.frames.specs.declared.Phase.the-variants.{Stopped};
 ghost use Rattle.frames.specs.Held.{Answered, Good, Lengths, Printed, ReadFits, Thinned, mapRoom, stageIf};
-ghost use Rattle.frames.specs.Stages.{Falls, Halted, Judged, Left, Settled, Starts, TookEnd, TookLine, TookUnended, areas, goes, loadingIn, mapOf, stage};
+ghost use Rattle.frames.specs.Stages.{Falls, Halted, Judged, Left, Settled, Starts, TookEnd, TookLine, TookUnended, areas, goes, loadingIn, mapOf};
 ghost use Rattle.frames.specs.Steps.{Builds, Loads, begun, asking};
 
 // The state before the first line.
