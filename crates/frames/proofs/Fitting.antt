@@ -1,11 +1,11 @@
 -- Lengths and limits from line to line.
-use mathlib.Core.Path.{_≡_, refl, sym, ap, subst, _∙_}
-use mathlib.Core.List.{List, [], _∷_}
-use Prim.Native.Nat.{ℕ, _+_, _-_, _*_, _≤_, _<_}
+use mathlib.Core.Path.{_≡_, ap, subst, _∙_}
+use mathlib.Core.List.{List}
+use Prim.Native.Nat.{ℕ, _+_, _-_, _≤_}
 use native.Mathlib.Omega.{arith}
-use borrow.Rule.Slice.PartMut.{midOf}
+use borrow.Rule.Slice.PartMut.{midOf, postOf, putMid}
 use lib.ListN.{length, set, take, length-set}
-use lib.Seq.{length-take-le}
+use lib.Seq.{length-take-le, take-at}
 use Rattle.road.specs.declared.NodeCount.{NodeCount}
 use Rattle.road.specs.declared.ArcCount.{ArcCount}
 use Rattle.readings.specs.declared.Line.{Line}
@@ -13,8 +13,15 @@ use Rattle.readings.specs.declared.Line.the-variants.{Head, Arc, Question, Driv
 use Rattle.readings.specs.Frames.{Reads}
 use Rattle.frames.specs.Held.{BuildFits, Lengths, Limited, ReadFits, mapRoom}
 
-front-size : (l : List ℕ) (k : ℕ) → k ≤ length l → length (midOf 0 (k - 0) l) ≡ k
-front-size l k h = let e : k - 0 ≡ k = omega arith in ap (λ (j : ℕ). length (take j l)) e ∙ length-take-le k l h
+-- the front of an area, as it is lent and as it came back
+pub front : (k : ℕ) (l : List ℕ) → midOf 0 (k - 0) l ≡ take k l
+front k l = let e : k - 0 ≡ k = omega arith in ap (λ (j : ℕ). take j l) e
+
+pub front-size : (l : List ℕ) (k : ℕ) → k ≤ length l → length (midOf 0 (k - 0) l) ≡ k
+front-size l k h = ap length (front k l) ∙ length-take-le k l h
+
+pub front-back : (k : ℕ) (l q : List ℕ) → k ≤ length l → length q ≡ length (midOf 0 (k - 0) l) → take k (putMid 0 (k - 0) l q) ≡ q
+front-back k l q h e = take-at q (postOf 0 (k - 0) l) k (e ∙ front-size l k h)
 
 module _ (tails heads weights starts chosen starts′ heads′ weights′ : List ℕ) (g : Lengths tails heads weights starts chosen starts′ heads′ weights′) where
   pub complete-fits :

@@ -32,6 +32,7 @@ use Rattle.maps.specs.Lists.{arcLines, belows, numbers, pointIf, pointLines}
 use Rattle.maps.specs.Printing.{RowsFit}
 use Rattle.frames.specs.Held.{Built, Laid, LayFits, mapRoom, stageIf}
 use Rattle.frames.specs.Steps.{Map, Stage, asking, stopped, Builds, refusedBy, no-cover, no-overlay, no-room, built, overRoom}
+use Rattle.frames.proofs.Fitting.{front}
 use Rattle.frames.proofs.Saids.{size}
 
 if-short : (b : Bool) (v : ℕ) → length (textOf (pointIf b v)) ≤ 7
@@ -170,9 +171,6 @@ module _ (starts heads weights chosen b₁ b₂ b₃ : List ℕ) (full : length 
           let m = made in
           ap (λ (j : ℕ). take j a₃) (sym (m .count) ∙ m .is .alike) ∙ ap (take (length (m .ws))) (m .whole-weights) ∙ take-append-seam (m .ws) (drop (length (m .ws)) b₃)
 
-      front : (l : List ℕ) → midOf 0 (c - 0) l ≡ take c l
-      front l = let q : c - 0 ≡ c = omega arith in ap (λ (j : ℕ). take j l) q
-
       rows-of : LayFits starts heads chosen b₁ b₂ b₃ at out → RowsFit a₁ (made .hs) (made .ws) (nodesOf starts) (at + 11 + 7 * length chosen) (length out)
       rows-of g =
           let m = made in
@@ -188,8 +186,8 @@ module _ (starts heads weights chosen b₁ b₂ b₃ : List ℕ) (full : length 
 
       pub print-fits : LayFits starts heads chosen b₁ b₂ b₃ at out → RowsFit a₁ (midOf 0 (c - 0) a₂) (midOf 0 (c - 0) a₃) (nodesOf starts) (at + 11 + 7 * length chosen) (length out)
       print-fits g =
-          subst (λ (x : List ℕ). RowsFit a₁ x (midOf 0 (c - 0) a₃) (nodesOf starts) (at + 11 + 7 * length chosen) (length out)) (sym (front a₂ ∙ front-heads))
-          (subst (λ (x : List ℕ). RowsFit a₁ (made .hs) x (nodesOf starts) (at + 11 + 7 * length chosen) (length out)) (sym (front a₃ ∙ front-weights)) (rows-of g))
+          subst (λ (x : List ℕ). RowsFit a₁ x (midOf 0 (c - 0) a₃) (nodesOf starts) (at + 11 + 7 * length chosen) (length out)) (sym (front c a₂ ∙ front-heads))
+          (subst (λ (x : List ℕ). RowsFit a₁ (made .hs) x (nodesOf starts) (at + 11 + 7 * length chosen) (length out)) (sym (front c a₃ ∙ front-weights)) (rows-of g))
 
       pub laid-built :
           (points : ℕ) →
@@ -218,11 +216,11 @@ module _ (starts heads weights chosen b₁ b₂ b₃ : List ℕ) (full : length 
                 subst
                 (λ (x : List ℕ).
                 Wrote out at (textOf (counts points (length x) ∷ pointLines 0 chosen ++ arcLines a₁ x (take c a₃) (nodesOf starts))) out′ at′)
-                (front a₂)
+                (front c a₂)
                 (subst
                 (λ (x : List ℕ).
                 Wrote out at (textOf (counts points (length (midOf 0 (c - 0) a₂)) ∷ pointLines 0 chosen ++ arcLines a₁ (midOf 0 (c - 0) a₂) x (nodesOf starts))) out′ at′)
-                (front a₃) w);
+                (front c a₃) w);
           }
 
 -- the cover

@@ -1,4 +1,7 @@
 pub mod Saids
-pub mod Laying
 pub mod Fitting
+pub mod Laying
+pub mod Standing
+pub mod Judging
+pub mod Cuts
 pub mod Unique

@@ -24,11 +24,15 @@ abbrev pub stageIf : Bool → Map → Stage
 stageIf true M = asking M
 stageIf false M = stopped
 
--- a question is answered, or refused, and that is printed
-pub record Answered (ℓ : ℕ) (M : Map) (a b : ℕ) (good : Bool) (out : List ℕ) (at : ℕ) (out′ : List ℕ) (at′ : ℕ) : Type 0 where
+-- a stage and lines of which P holds, the lines being printed
+pub record Printed (P : Stage → List Out → Type 0) (after : Stage) (out : List ℕ) (at : ℕ) (out′ : List ℕ) (at′ : ℕ) : Type 0 where
   pub outs : List Out
-  pub does : Answers ℓ M a b (stageIf good M) outs
+  pub does : P after outs
   pub wrote : Wrote out at (textOf outs) out′ at′
+
+-- a question is answered, or refused, and that is printed
+abbrev pub Answered : ℕ → Map → ℕ → ℕ → Bool → List ℕ → ℕ → List ℕ → ℕ → Type 0
+Answered ℓ M a b good = Printed (Answers ℓ M a b) (stageIf good M)
 
 -- the same of a drive, whatever the overlay
 pub record Thinned (ℓ : ℕ) (starts heads weights chosen nodes : List ℕ) (good : Bool) (out : List ℕ) (at : ℕ) (out′ : List ℕ) (at′ : ℕ) : Type 0 where
@@ -92,19 +96,19 @@ pub record Lengths (tails heads weights starts chosen starts′ heads′ weights
   pub over-heads-long : length heads′ ≡ 4096
   pub over-weights-long : length weights′ ≡ 4096
 
--- 1 while arcs are read
-abbrev pub loads : Phase → ℕ
-loads Begun = 0
-loads Loading = 1
-loads Asking = 0
-loads Stopped = 0
+-- what is known of the counts by the phase: before the head no line is read, and each line after it was an arc
+abbrev pub Counted : Phase → ℕ → ℕ → ℕ → Type 0
+Counted Begun lines m count = lines ≡ 0
+Counted Loading lines m count = (lines ≡ count + 1) × (count < m)
+Counted Asking lines m count = Unit {0}
+Counted Stopped lines m count = Unit {0}
 
 -- what the state keeps within its limits
 pub record Good (s : State) : Type 0 where
   pub lines : s .lines ≤ 65535
   pub nodes : s .n .0 ≤ 512
   pub arcs : s .m .0 ≤ 2048
-  pub count : loads (s .phase) ≡ 1 → s .count .0 < s .m .0
+  pub counted : Counted (s .phase) (s .lines) (s .m .0) (s .count .0)
   pub over : s .over .0 ≤ 4096
 
 -- the numbers that are read are within the program's limits

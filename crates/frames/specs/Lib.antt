@@ -1,3 +1,4 @@
 -- The program's state, what each line does to it, and what the code leaves.
 pub mod Steps
 pub mod Held
+pub mod Stages

@@ -1,4 +1,5 @@
 // What each line does to the program's state.
+use crate::Done;
 use crate::Phase;
 use crate::State;
 use crate::Taken;
@@ -13,13 +14,20 @@ use road::NodeCount;
 use road::Refusal;
 use road::wide;
 ghost use mathlib.Core.Path.{_≡_};
+ghost use mathlib.Core.Bool.{true};
+ghost use mathlib.Core.List.{[]};
 ghost use Prim.Native.Nat.{_+_, _≤_, _<_};
-ghost use lib.ListN.{length};
-ghost use Rattle.frames.specs.Held.{Good, Lengths, ReadFits, mapRoom};
+ghost use lib.ListN.{length, take};
+ghost use Rattle.maps.specs.Lists.{startsOf};
+ghost use Rattle.readings.specs.declared.Line.the-variants.{Arc};
+ghost use Rattle.frames.specs.declared.Phase.the-variants.{Stopped};
+ghost use Rattle.frames.specs.Held.{Answered, Good, Lengths, Printed, ReadFits, Thinned, mapRoom, stageIf};
+ghost use Rattle.frames.specs.Stages.{Falls, Halted, Judged, Left, Settled, Starts, TookEnd, TookLine, TookUnended, areas, goes, loadingIn, mapOf};
+ghost use Rattle.frames.specs.Steps.{Builds, Loads, begun, asking};
 
 // The state before the first line.
 pub fn first() -> State
-    ensures { λ r. ⌜ Good r ⌝ }
+    ensures { λ r. ⌜ Starts r ⌝ }
 {
     State {
         phase: Phase::Begun,
@@ -36,8 +44,7 @@ pub fn first() -> State
 fn stop(line: usize, out: &mut [u8], at: usize) -> Taken
     requires { ⌜ at + 9 ≤ length (now out) ⌝ }
     requires { ⌜ line ≤ 65535 ⌝ }
-    ensures { λ r. ⌜ Good (r .state) ⌝ }
-    ensures { λ r. ⌜ r .at ≤ length (now (out .entry)) ⌝ }
+    ensures { λ r. ⌜ Halted line (r .state) (now (out .entry)) at (now (out .exit)) (r .at) ⌝ }
 {
     let done = refuse(Refusal::Line, line, out, at);
     let next = done.at;
@@ -50,6 +57,7 @@ fn stop(line: usize, out: &mut [u8], at: usize) -> Taken
 fn stopped(line: usize) -> State
     requires { ⌜ line ≤ 65535 ⌝ }
     ensures { λ r. ⌜ Good r ⌝ }
+    ensures { λ r. ⌜ r .phase ≡ Stopped ⌝ }
 {
     State {
         phase: Phase::Stopped,
@@ -62,25 +70,31 @@ fn stopped(line: usize) -> State
     }
 }
 
-// The program goes on with the map that it has.
-fn asking(s: State, line: usize) -> State
+// The program goes on with the map that it has, or stops.
+fn settled(
+    good: bool,
+    line: usize,
+    n: NodeCount,
+    m: ArcCount,
+    k: NodeCount,
+    over: ArcCount,
+) -> State
     requires { ⌜ line ≤ 65535 ⌝ }
-    requires { ⌜ (s .n .0 ≤ 512) × (s .m .0 ≤ 2048) × (s .over .0 ≤ 4096) ⌝ }
-    ensures { λ r. ⌜ Good r ⌝ }
+    requires { ⌜ (n .0 ≤ 512) × (m .0 ≤ 2048) × (over .0 ≤ 4096) ⌝ }
+    ensures { λ r. ⌜ Settled good line (n .0) (m .0) (over .0) r ⌝ }
 {
-    let n = s.n;
-    let m = s.m;
-    let k = s.k;
-    let over = s.over;
-    State {
-        phase: Phase::Asking,
-        lines: line,
-        n: n,
-        m: m,
-        k: k,
-        count: m,
-        over: over,
+    if good {
+        return State {
+            phase: Phase::Asking,
+            lines: line,
+            n: n,
+            m: m,
+            k: k,
+            count: m,
+            over: over,
+        };
     }
+    stopped(line)
 }
 
 // The graph is complete: the map is built.
@@ -104,8 +118,7 @@ fn complete(
     requires { ⌜ Lengths (now tails) (now heads) (now weights) (now starts) (now set) (now «over_starts») (now «over_heads») (now «over_weights») ⌝ }
     requires { ⌜ at + mapRoom ≤ length (now out) ⌝ }
     requires { ⌜ line ≤ 65535 ⌝ }
-    ensures { λ r. ⌜ Good (r .state) ⌝ }
-    ensures { λ r. ⌜ r .at ≤ length (now (out .entry)) ⌝ }
+    ensures { λ r. ⌜ Left (Builds line (startsOf (n .0) (take (m .0) (now (tails .entry)))) (take (m .0) (now (heads .entry))) (take (m .0) (now (weights .entry))) (k .0)) line (r .state) (areas (now (tails .entry)) (now (heads .entry)) (now (weights .entry)) (now (starts .exit)) (now (set .exit)) (now («over_starts» .exit)) (now («over_heads» .exit)) (now («over_weights» .exit))) (now (out .entry)) at (now (out .exit)) (r .at) ⌝ }
 {
     let nodes = n.0;
     let arcs = m.0;
@@ -124,29 +137,16 @@ fn complete(
         out,
         at,
     );
-    let next = done.at;
+    let good = done.good;
     let over = done.over;
-    if done.good {
-        return Taken {
-            state: State {
-                phase: Phase::Asking,
-                lines: line,
-                n: n,
-                m: m,
-                k: k,
-                count: m,
-                over: ArcCount(over),
-            },
-            at: next,
-        };
-    }
+    let next = done.at;
     Taken {
-        state: stopped(line),
+        state: settled(good, line, n, m, k, ArcCount(over)),
         at: next,
     }
 }
 
-// The head is read.
+// The head is read: it is the first line.
 fn take_head(
     line: usize,
     n: NodeCount,
@@ -166,9 +166,8 @@ fn take_head(
     requires { ⌜ (n .0 ≤ 512) × (m .0 ≤ 2048) ⌝ }
     requires { ⌜ Lengths (now tails) (now heads) (now weights) (now starts) (now set) (now «over_starts») (now «over_heads») (now «over_weights») ⌝ }
     requires { ⌜ at + mapRoom ≤ length (now out) ⌝ }
-    requires { ⌜ line ≤ 65535 ⌝ }
-    ensures { λ r. ⌜ Good (r .state) ⌝ }
-    ensures { λ r. ⌜ r .at ≤ length (now (out .entry)) ⌝ }
+    requires { ⌜ line ≡ 1 ⌝ }
+    ensures { λ r. ⌜ Left (Loads line (n .0) (m .0) (k .0) [] [] []) line (r .state) (areas (now (tails .entry)) (now (heads .entry)) (now (weights .entry)) (now (starts .exit)) (now (set .exit)) (now («over_starts» .exit)) (now («over_heads» .exit)) (now («over_weights» .exit))) (now (out .entry)) at (now (out .exit)) (r .at) ⌝ }
 {
     if 0 < m.0 {
         return Taken {
@@ -205,6 +204,7 @@ fn take_head(
 // Whether the tail is at or above n, or below the former.
 fn falls(n: NodeCount, tails: &[u32], count: usize, tail: u32) -> bool
     requires { ⌜ count ≤ length (now tails) ⌝ }
+    ensures { λ r. ⌜ Falls r (n .0) tail (take count (now (tails .entry))) ⌝ }
 {
     if n.0 <= wide(tail) {
         return true;
@@ -212,7 +212,10 @@ fn falls(n: NodeCount, tails: &[u32], count: usize, tail: u32) -> bool
     if count == 0 {
         return false;
     }
-    tail < tails[count - 1]
+    if tail < tails[count - 1] {
+        return true;
+    }
+    false
 }
 
 // An arc is read.
@@ -237,8 +240,8 @@ fn take_arc(
     requires { ⌜ Lengths (now tails) (now heads) (now weights) (now starts) (now set) (now «over_starts») (now «over_heads») (now «over_weights») ⌝ }
     requires { ⌜ at + mapRoom ≤ length (now out) ⌝ }
     requires { ⌜ line ≤ 65535 ⌝ }
-    ensures { λ r. ⌜ Good (r .state) ⌝ }
-    ensures { λ r. ⌜ r .at ≤ length (now (out .entry)) ⌝ }
+    requires { ⌜ line ≡ s .count .0 + 2 ⌝ }
+    ensures { λ r. ⌜ Left (Judged line (loadingIn s (areas (now (tails .entry)) (now (heads .entry)) (now (weights .entry)) (now (starts .entry)) (now (set .entry)) (now («over_starts» .entry)) (now («over_heads» .entry)) (now («over_weights» .entry)))) (Arc tail head weight) []) line (r .state) (areas (now (tails .exit)) (now (heads .exit)) (now (weights .exit)) (now (starts .exit)) (now (set .exit)) (now («over_starts» .exit)) (now («over_heads» .exit)) (now («over_weights» .exit))) (now (out .entry)) at (now (out .exit)) (r .at) ⌝ }
 {
     let n = s.n;
     let m = s.m;
@@ -297,19 +300,17 @@ fn take_question(
     over_weights: &[u32],
     out: &mut [u8],
     at: usize,
-) -> Taken
+) -> Done
     requires { ⌜ (s .n .0 ≤ 512) × (s .m .0 ≤ 2048) × (s .over .0 ≤ 4096) ⌝ }
     requires { ⌜ Lengths (now heads) (now heads) (now weights) (now starts) (now set) (now «over_starts») (now «over_heads») (now «over_weights») ⌝ }
     requires { ⌜ at + mapRoom ≤ length (now out) ⌝ }
-    requires { ⌜ line ≤ 65535 ⌝ }
-    ensures { λ r. ⌜ Good (r .state) ⌝ }
-    ensures { λ r. ⌜ r .at ≤ length (now (out .entry)) ⌝ }
+    ensures { λ d. ⌜ Answered line (mapOf (s .n .0) (s .m .0) (s .over .0) (now (starts .entry)) (now (heads .entry)) (now (weights .entry)) (now (set .entry)) (now («over_starts» .entry)) (now («over_heads» .entry)) (now («over_weights» .entry))) a b (d .good) (now (out .entry)) at (now (out .exit)) (d .at) ⌝ }
 {
     let n = s.n.0;
     let m = s.m.0;
     let over = s.over.0;
     let e = n + 1;
-    let done = answer_question(
+    answer_question(
         line,
         &starts[0..e],
         &heads[0..m],
@@ -322,18 +323,7 @@ fn take_question(
         b,
         out,
         at,
-    );
-    let next = done.at;
-    if done.good {
-        return Taken {
-            state: asking(s, line),
-            at: next,
-        };
-    }
-    Taken {
-        state: stopped(line),
-        at: next,
-    }
+    )
 }
 
 // A drive is to be thinned: the first `count` of the nodes.
@@ -348,20 +338,18 @@ fn take_drive(
     set: &[u8],
     out: &mut [u8],
     at: usize,
-) -> Taken
-    requires { ⌜ (s .n .0 ≤ 512) × (s .m .0 ≤ 2048) × (s .over .0 ≤ 4096) ⌝ }
+) -> Done
+    requires { ⌜ (s .n .0 ≤ 512) × (s .m .0 ≤ 2048) ⌝ }
     requires { ⌜ (length (now nodes) ≡ 64) × (count ≤ 64) ⌝ }
     requires { ⌜ (length (now heads) ≡ 2048) × (length (now weights) ≡ 2048) × (length (now starts) ≡ 513) × (length (now set) ≡ 512) ⌝ }
     requires { ⌜ at + mapRoom ≤ length (now out) ⌝ }
-    requires { ⌜ line ≤ 65535 ⌝ }
-    ensures { λ r. ⌜ Good (r .state) ⌝ }
-    ensures { λ r. ⌜ r .at ≤ length (now (out .entry)) ⌝ }
+    ensures { λ d. ⌜ Thinned line (take (s .n .0 + 1) (now (starts .entry))) (take (s .m .0) (now (heads .entry))) (take (s .m .0) (now (weights .entry))) (take (s .n .0) (now (set .entry))) (take count (now (nodes .entry))) (d .good) (now (out .entry)) at (now (out .exit)) (d .at) ⌝ }
 {
     let n = s.n.0;
     let m = s.m.0;
     let e = n + 1;
     let mut positions = [0u32; 64];
-    let done = answer_drive(
+    answer_drive(
         line,
         &starts[0..e],
         &heads[0..m],
@@ -371,23 +359,13 @@ fn take_drive(
         &mut positions[0..count],
         out,
         at,
-    );
-    let next = done.at;
-    if done.good {
-        return Taken {
-            state: asking(s, line),
-            at: next,
-        };
-    }
-    Taken {
-        state: stopped(line),
-        at: next,
-    }
+    )
 }
 
-// A line before the head.
+// A line before the head: the first.
 fn begin(
     read: Line,
+    nodes: &[u32],
     line: usize,
     tails: &[u32],
     heads: &[u32],
@@ -400,12 +378,11 @@ fn begin(
     out: &mut [u8],
     at: usize,
 ) -> Taken
-    requires { ⌜ line ≤ 65535 ⌝ }
+    requires { ⌜ line ≡ 1 ⌝ }
     requires { ⌜ ReadFits read ⌝ }
     requires { ⌜ Lengths (now tails) (now heads) (now weights) (now starts) (now set) (now «over_starts») (now «over_heads») (now «over_weights») ⌝ }
     requires { ⌜ at + mapRoom ≤ length (now out) ⌝ }
-    ensures { λ r. ⌜ Good (r .state) ⌝ }
-    ensures { λ r. ⌜ r .at ≤ length (now (out .entry)) ⌝ }
+    ensures { λ r. ⌜ Left (Judged line begun read (now (nodes .entry))) line (r .state) (areas (now (tails .entry)) (now (heads .entry)) (now (weights .entry)) (now (starts .exit)) (now (set .exit)) (now («over_starts» .exit)) (now («over_heads» .exit)) (now («over_weights» .exit))) (now (out .entry)) at (now (out .exit)) (r .at) ⌝ }
 {
     let Line::Head(n, m, k) = read else {
         return stop(line, out, at);
@@ -432,6 +409,7 @@ fn begin(
 fn load(
     s: State,
     read: Line,
+    nodes: &[u32],
     line: usize,
     tails: &mut [u32],
     heads: &mut [u32],
@@ -445,11 +423,11 @@ fn load(
     at: usize,
 ) -> Taken
     requires { ⌜ line ≤ 65535 ⌝ }
+    requires { ⌜ line ≡ s .count .0 + 2 ⌝ }
     requires { ⌜ (s .n .0 ≤ 512) × (s .m .0 ≤ 2048) × (s .count .0 < s .m .0) ⌝ }
     requires { ⌜ Lengths (now tails) (now heads) (now weights) (now starts) (now set) (now «over_starts») (now «over_heads») (now «over_weights») ⌝ }
     requires { ⌜ at + mapRoom ≤ length (now out) ⌝ }
-    ensures { λ r. ⌜ Good (r .state) ⌝ }
-    ensures { λ r. ⌜ r .at ≤ length (now (out .entry)) ⌝ }
+    ensures { λ r. ⌜ Left (Judged line (loadingIn s (areas (now (tails .entry)) (now (heads .entry)) (now (weights .entry)) (now (starts .entry)) (now (set .entry)) (now («over_starts» .entry)) (now («over_heads» .entry)) (now («over_weights» .entry)))) read (now (nodes .entry))) line (r .state) (areas (now (tails .exit)) (now (heads .exit)) (now (weights .exit)) (now (starts .exit)) (now (set .exit)) (now («over_starts» .exit)) (now («over_heads» .exit)) (now («over_weights» .exit))) (now (out .entry)) at (now (out .exit)) (r .at) ⌝ }
 {
     let Line::Arc(tail, head, weight) = read else {
         return stop(line, out, at);
@@ -488,15 +466,13 @@ fn ask(
     over_weights: &[u32],
     out: &mut [u8],
     at: usize,
-) -> Taken
-    requires { ⌜ line ≤ 65535 ⌝ }
+) -> Done
     requires { ⌜ ReadFits read ⌝ }
     requires { ⌜ length (now nodes) ≡ 64 ⌝ }
     requires { ⌜ (s .n .0 ≤ 512) × (s .m .0 ≤ 2048) × (s .over .0 ≤ 4096) ⌝ }
     requires { ⌜ Lengths (now heads) (now heads) (now weights) (now starts) (now set) (now «over_starts») (now «over_heads») (now «over_weights») ⌝ }
     requires { ⌜ at + mapRoom ≤ length (now out) ⌝ }
-    ensures { λ r. ⌜ Good (r .state) ⌝ }
-    ensures { λ r. ⌜ r .at ≤ length (now (out .entry)) ⌝ }
+    ensures { λ d. ⌜ Printed (Judged line (asking (mapOf (s .n .0) (s .m .0) (s .over .0) (now (starts .entry)) (now (heads .entry)) (now (weights .entry)) (now (set .entry)) (now («over_starts» .entry)) (now («over_heads» .entry)) (now («over_weights» .entry)))) read (now (nodes .entry))) (stageIf (d .good) (mapOf (s .n .0) (s .m .0) (s .over .0) (now (starts .entry)) (now (heads .entry)) (now (weights .entry)) (now (set .entry)) (now («over_starts» .entry)) (now («over_heads» .entry)) (now («over_weights» .entry)))) (now (out .entry)) at (now (out .exit)) (d .at) ⌝ }
 {
     if let Line::Question(a, b) = read {
         return take_question(
@@ -518,7 +494,7 @@ fn ask(
     if let Line::Drive(count) = read {
         return take_drive(s, line, nodes, count, heads, weights, starts, set, out, at);
     }
-    stop(line, out, at)
+    refuse(Refusal::Line, line, out, at)
 }
 
 // Takes the next line, without its line feed.
@@ -536,11 +512,11 @@ pub fn take_line(
     out: &mut [u8],
     at: usize,
 ) -> Taken
+    requires { ⌜ goes (s .phase) ≡ true ⌝ }
     requires { ⌜ Good s ⌝ }
     requires { ⌜ Lengths (now tails) (now heads) (now weights) (now starts) (now set) (now «over_starts») (now «over_heads») (now «over_weights») ⌝ }
     requires { ⌜ at + mapRoom ≤ length (now out) ⌝ }
-    ensures { λ r. ⌜ Good (r .state) ⌝ }
-    ensures { λ r. ⌜ r .at ≤ length (now (out .entry)) ⌝ }
+    ensures { λ r. ⌜ TookLine s (areas (now (tails .entry)) (now (heads .entry)) (now (weights .entry)) (now (starts .entry)) (now (set .entry)) (now («over_starts» .entry)) (now («over_heads» .entry)) (now («over_weights» .entry))) (now (bytes .entry)) (r .state) (areas (now (tails .exit)) (now (heads .exit)) (now (weights .exit)) (now (starts .exit)) (now (set .exit)) (now («over_starts» .exit)) (now («over_heads» .exit)) (now («over_weights» .exit))) (now (out .entry)) at (now (out .exit)) (r .at) ⌝ }
 {
     let line = s.lines + 1;
     if 65535 < line {
@@ -552,6 +528,7 @@ pub fn take_line(
     match phase {
         Phase::Begun => begin(
             read,
+            &nodes,
             line,
             tails,
             heads,
@@ -567,6 +544,7 @@ pub fn take_line(
         Phase::Loading => load(
             s,
             read,
+            &nodes,
             line,
             tails,
             heads,
@@ -579,66 +557,64 @@ pub fn take_line(
             out,
             at,
         ),
-        Phase::Asking => ask(
-            s,
-            read,
-            &nodes,
-            line,
-            heads,
-            weights,
-            starts,
-            set,
-            over_starts,
-            over_heads,
-            over_weights,
-            out,
-            at,
-        ),
+        Phase::Asking => {
+            let done = ask(
+                s,
+                read,
+                &nodes,
+                line,
+                heads,
+                weights,
+                starts,
+                set,
+                over_starts,
+                over_heads,
+                over_weights,
+                out,
+                at,
+            );
+            let good = done.good;
+            let next = done.at;
+            Taken {
+                state: settled(good, line, s.n, s.m, s.k, s.over),
+                at: next,
+            }
+        }
         Phase::Stopped => Taken { state: s, at: at },
     }
 }
 
 // Takes bytes, at least one, that no line feed ends: what they are plays no part.
 pub fn take_unended(s: State, out: &mut [u8], at: usize) -> Taken
+    requires { ⌜ goes (s .phase) ≡ true ⌝ }
     requires { ⌜ Good s ⌝ }
     requires { ⌜ at + 9 ≤ length (now out) ⌝ }
-    ensures { λ r. ⌜ Good (r .state) ⌝ }
-    ensures { λ r. ⌜ r .at ≤ length (now (out .entry)) ⌝ }
+    ensures { λ r. ⌜ TookUnended s (r .state) (now (out .entry)) at (now (out .exit)) (r .at) ⌝ }
 {
     let lines = s.lines;
-    stop(next(lines), out, at)
+    let line = lines + 1;
+    if 65535 < line {
+        return stop(65535, out, at);
+    }
+    stop(line, out, at)
 }
 
-// Takes the end of the input.
+// Takes the end of the input. While lines are missing it comes early: none of them is beyond 65,535.
 pub fn take_end(s: State, out: &mut [u8], at: usize) -> Taken
+    requires { ⌜ goes (s .phase) ≡ true ⌝ }
     requires { ⌜ Good s ⌝ }
     requires { ⌜ at + 9 ≤ length (now out) ⌝ }
-    ensures { λ r. ⌜ Good (r .state) ⌝ }
-    ensures { λ r. ⌜ r .at ≤ length (now (out .entry)) ⌝ }
+    ensures { λ r. ⌜ TookEnd s (r .state) (now (out .entry)) at (now (out .exit)) (r .at) ⌝ }
 {
     let phase = s.phase;
     let lines = s.lines;
     match phase {
-        Phase::Begun => stop(next(lines), out, at),
-        Phase::Loading => stop(next(lines), out, at),
+        Phase::Begun => stop(lines + 1, out, at),
+        Phase::Loading => stop(lines + 1, out, at),
         Phase::Asking => Taken {
             state: stopped(lines),
             at: at,
         },
-        Phase::Stopped => Taken {
-            state: stopped(lines),
-            at: at,
-        },
+        Phase::Stopped => Taken { state: s, at: at },
     }
-}
-
-// The number of the line after so many, FFFF being the last that is told.
-fn next(lines: usize) -> usize
-    requires { ⌜ lines ≤ 65535 ⌝ }
-    ensures { λ r. ⌜ r ≤ 65535 ⌝ }
-{
-    if lines == 65535 {
-        return 65535;
-    }
-    lines + 1
 }

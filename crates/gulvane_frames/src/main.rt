@@ -7,9 +7,12 @@ use frames::first;
 use frames::take_end;
 use frames::take_line;
 use frames::take_unended;
+ghost use mathlib.Core.Path.{_≡_};
+ghost use mathlib.Core.Bool.{true};
 ghost use Prim.Native.Nat.{_+_, _≤_};
 ghost use lib.ListN.{length};
 ghost use Rattle.frames.specs.Held.{Good, Lengths, mapRoom};
+ghost use Rattle.frames.specs.Stages.{goes};
 ghost use Rattle.gulvane_frames.specs.Runs.{Cut, Fine};
 
 // Where the program is: the state, how much of the chunk is used and filled, how much of the line
@@ -31,7 +34,7 @@ pub struct Piece {
 }
 
 // Moves bytes from the chunk to the line, up to a line feed. No frame has more than 260
-// characters, so that of a longer line the first 261 are enough.
+// characters, so that of a longer line the first 261 are enough (`cut-step` in `frames`).
 fn cut(chunk: &[u8; 65536], used: usize, filled: usize, line: &mut [u8; 261], kept: usize) -> Piece
     requires { ⌜ Cut used filled kept ⌝ }
     ensures { λ r. ⌜ Cut (r .next) filled (r .kept) ⌝ }
@@ -69,7 +72,9 @@ fn keep(line: &mut [u8; 261], k: usize, b: u8) -> usize
 }
 
 // Whether more lines are wanted.
-fn running(s: State) -> bool {
+fn running(s: State) -> bool
+    ensures { λ r. ⌜ r ≡ goes (s .phase) ⌝ }
+{
     let phase = s.phase;
     match phase {
         Phase::Stopped => false,
@@ -122,6 +127,7 @@ fn hand(
     at: usize,
 ) -> Taken
     requires { ⌜ (kept ≤ length (now line)) × (at + mapRoom ≤ length (now out)) ⌝ }
+    requires { ⌜ goes (s .phase) ≡ true ⌝ }
     requires { ⌜ Good s ⌝ }
     requires { ⌜ Lengths (now tails) (now heads) (now weights) (now starts) (now set) (now «over_starts») (now «over_heads») (now «over_weights») ⌝ }
     ensures { λ r. ⌜ (Good (r .state)) × (r .at ≤ length (now (out .entry))) ⌝ }
@@ -144,6 +150,7 @@ fn hand(
 
 // The input has ended: a line without its line feed, or none.
 fn finish(s: State, kept: usize, out: &mut [u8; 131072], at: usize) -> Taken
+    requires { ⌜ goes (s .phase) ≡ true ⌝ }
     requires { ⌜ Good s ⌝ }
     requires { ⌜ at ≤ 49152 ⌝ }
     ensures { λ r. ⌜ (Good (r .state)) × (r .at ≤ 131072) ⌝ }
@@ -169,6 +176,7 @@ fn turn(
     over_weights: &mut [u32; 4096],
     out: &mut [u8; 131072],
 ) -> Run
+    requires { ⌜ goes (r .state .phase) ≡ true ⌝ }
     requires { ⌜ Fine r ⌝ }
     ensures { λ q. ⌜ Fine q ⌝ }
 {

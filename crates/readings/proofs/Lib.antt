@@ -1,4 +1,5 @@
 pub mod Digits
 pub mod Texts
 pub mod Shapes
+pub mod Cuts
 pub mod Unique

@@ -257,7 +257,7 @@ small-bytes (question a b) = (omega arith, (omega arith, (omega arith, (omega ar
 small-bytes (drive l) = (omega arith, (omega arith, small-twos l))
 
 -- and no frame that is taken has too many
-pub few-bytes : (room : ℕ) (f : Frame) → Taken room f → length (bytesOf f) ≤ mostBytes
+few-bytes : (room : ℕ) (f : Frame) → Taken room f → length (bytesOf f) ≤ mostBytes
 few-bytes room (head n m k) t = omega arith
 few-bytes room (arc t h w) t′ = omega arith
 few-bytes room (question a b) t = omega arith

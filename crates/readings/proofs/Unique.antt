@@ -1,4 +1,4 @@
--- A line is the text of one frame at most, and of none if it is long. So what is told of it is determined.
+-- A line is the text of one frame at most. So what is told of it is determined.
 use mathlib.Core.Path.{_≡_, refl, sym, ap, subst, _∙_}
 use mathlib.Core.Logic.{_⊎_, inl, inr}
 use mathlib.Core.List.{List, [], _∷_, _++_}
@@ -6,12 +6,10 @@ use Prim.Native.Nat.{ℕ, _+_, _*_, _/_, _%_, _≤_, _<_}
 use native.Mathlib.Omega.{arith}
 use lib.ListN.{length, getD, drop}
 use Rattle.paths.specs.Lists.{Each}
-use Rattle.hexlines.proofs.Growing.{hexText-length}
-use Rattle.hexlines.specs.Text.{hexText}
 use Rattle.readings.specs.declared.Line.{Line}
 use Rattle.readings.specs.declared.Line.the-variants.{Head, Arc, Question, Drive, Wrong}
-use Rattle.readings.specs.Frames.{Frame, head, arc, question, drive, bytesOf, twos, Fits, Taken, ReadAs, Reads, Tells}
-use Rattle.readings.proofs.Shapes.{few-bytes, small-bytes}
+use Rattle.readings.specs.Frames.{Frame, head, arc, question, drive, bytesOf, twos, Fits, ReadAs, Reads, Tells}
+use Rattle.readings.proofs.Shapes.{small-bytes}
 use Rattle.readings.proofs.Texts.{text-one}
 
 -- entry p of two equal lists
@@ -79,10 +77,6 @@ frame-one (drive l) (drive m) a b e = ap drive (twos-one l m (a .1) (b .1) (ap (
 pub read-one : (room : ℕ) (line : List ℕ) (f g : Frame) → ReadAs room line f → ReadAs room line g → f ≡ g
 read-one room line f g a b =
     frame-one f g (a .fits) (b .fits) (text-one (bytesOf f) (bytesOf g) (small-bytes f) (small-bytes g) (sym (a .text) ∙ b .text))
-
--- and of none if it has more than 260 characters: of such a line the first 261 tell as much as all of it
-pub long-unread : (room : ℕ) (line : List ℕ) (f : Frame) → 260 < length line → ReadAs room line f → ⊥
-long-unread room line f h r = omega (arith, ap length (r .text), hexText-length (bytesOf f), few-bytes room f (r .taken))
 
 -- what is told of a frame, and what it leaves in the slice for a drive's nodes
 abbrev lineOf : Frame → Line

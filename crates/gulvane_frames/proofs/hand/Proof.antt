@@ -19,7 +19,7 @@ part-take-line-end c = search needs
 
 -- src/main.rt:122:5
 take-line-requires : tie.Need-take-line-requires
-take-line-requires c κs = (c .before .before .before .before .before .before .before .before .before .before .before .before .before .before .before .before .before .before .before .before .pre .1 .0, (c .before .before .before .before .before .before .before .before .before .before .before .before .before .before .before .before .before .before .before .before .pre .1 .1, c .before .before .before .before .before .before .before .before .before .before .before .before .before .before .before .before .before .before .before .before .pre .0 .1))
+take-line-requires c κs = (c .before .before .before .before .before .before .before .before .before .before .before .before .before .before .before .before .before .before .before .before .pre .1 .0, (c .before .before .before .before .before .before .before .before .before .before .before .before .before .before .before .before .before .before .before .before .pre .1 .1 .0, (c .before .before .before .before .before .before .before .before .before .before .before .before .before .before .before .before .before .before .before .before .pre .1 .1 .1, c .before .before .before .before .before .before .before .before .before .before .before .before .before .before .before .before .before .before .before .before .pre .0 .1)))
 
 -- src/main.rt:102:1
 same-length : tie.Need-same-length
@@ -59,7 +59,7 @@ same-length-9 c = search needs
 
 -- src/main.rt:102:1
 returns : tie.Need-returns
-returns c = search needs
+returns c = (c .before .before .before .before .before .before .before .before .before .before .before .before .before .before .before .before .before .before .take-line .ensures .good, c .before .before .before .before .before .before .before .before .before .before .before .before .before .before .before .before .before .before .take-line .ensures .printed .wrote .room)
 
 pub hand-spec : {M : Type 1} → statement M
 hand-spec =

@@ -9,6 +9,8 @@ use Rattle.frames.proofs.first.Reads as first-reads
 use Rattle.gulvane_frames.proofs.print_rest.Reads as print-rest-reads
 use Rattle.gulvane_frames.proofs.running.Reads as running-reads
 use Rattle.gulvane_frames.proofs.turn.Reads as turn-reads
+use mathlib.Core.Bool.{Bool·not-not, not}
+use mathlib.Core.Path.{sym, ap, _∙_}
 
 abbrev Inv-loop : tie.InvT-loop
 Inv-loop chunk₀ line₀ tails₀ heads₀ weights₀ starts₀ set₀ over-starts₀ over-heads₀ over-weights₀ out₀ r₀ turns₀ chunk line tails heads weights starts set over-starts over-heads over-weights out r turns = Fine r
@@ -22,7 +24,7 @@ first-requires c κs = search needs
 
 -- src/main.rt:262:5
 loop-holds : tie.Need-loop-holds Inv-loop μ-loop
-loop-holds c = record { good = c .first .ensures; cut = record { within = omega arith; chunk = omega arith; line = omega arith }; waits = omega arith }
+loop-holds c = record { good = c .first .ensures .good; cut = record { within = omega arith; chunk = omega arith; line = omega arith }; waits = omega arith }
 
 -- src/main.rt:264:13
 running-requires : tie.Need-running-requires Inv-loop μ-loop
@@ -38,7 +40,7 @@ returns c = search needs
 
 -- src/main.rt:269:9
 turn-requires : tie.Need-turn-requires Inv-loop μ-loop
-turn-requires c κs = c .before .before .before .before .before .before .before .before .before .before .before .before .before .before .before .loop .inv
+turn-requires c κs = (sym (c .before .before .before .before .before .before .before .before .before .before .before .before .running .ensures) ∙ sym (Bool·not-not _) ∙ ap not (c .before .before .before .before .before .before .before .before .before .before .before .if1 .left), c .before .before .before .before .before .before .before .before .before .before .before .before .before .before .before .loop .inv)
 
 -- src/main.rt:283:9
 sub-turns : tie.Need-sub-turns Inv-loop μ-loop

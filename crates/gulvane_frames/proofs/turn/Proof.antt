@@ -21,7 +21,7 @@ count-requires c κs = search needs
 
 -- src/main.rt:176:17
 finish-requires : tie.Need-finish-requires
-finish-requires c κs = search needs
+finish-requires c κs = (c .before .before .before .before .before .before .before .before .before .pre .0, (c .before .before .before .before .before .before .before .before .before .pre .1 .good, c .before .before .before .before .before .before .before .before .before .pre .1 .waits))
 
 -- src/main.rt:179:17
 drain-requires : tie.Need-drain-requires
@@ -41,7 +41,7 @@ cut-requires c κs = search needs
 
 -- src/main.rt:200:13
 hand-requires : tie.Need-hand-requires
-hand-requires c κs = ((omega (arith, c .before .before .before .before .before .before .before .before .before .before .before .before .cut .ensures .line), omega (arith, c .before .before .before .before .before .before .before .before .before .before .before .before .before .before .before .before .before .pre .waits)), (c .before .before .before .before .before .before .before .before .before .before .before .before .before .before .before .before .before .pre .good, record { tails-long = search needs; heads-long = search needs; weights-long = search needs; starts-long = search needs; chosen-long = search needs; over-starts-long = search needs; over-heads-long = search needs; over-weights-long = search needs }))
+hand-requires c κs = ((omega (arith, c .before .before .before .before .before .before .before .before .before .before .before .before .cut .ensures .line), omega (arith, c .before .before .before .before .before .before .before .before .before .before .before .before .before .before .before .before .before .pre .1 .waits)), (c .before .before .before .before .before .before .before .before .before .before .before .before .before .before .before .before .before .pre .0, (c .before .before .before .before .before .before .before .before .before .before .before .before .before .before .before .before .before .pre .1 .good, record { tails-long = search needs; heads-long = search needs; weights-long = search needs; starts-long = search needs; chosen-long = search needs; over-starts-long = search needs; over-heads-long = search needs; over-weights-long = search needs })))
 
 -- src/main.rt:217:13
 drain-requires-2 : tie.Need-drain-requires-2

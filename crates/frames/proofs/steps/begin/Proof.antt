@@ -1,4 +1,3 @@
-use Rattle.frames.proofs.Fitting.{head-limits}
 use borrow.Author.Needs.{needs}
 use Rattle.frames.proofs.steps.begin.Statement.{statement}
 use Rattle.frames.proofs.steps.begin.Tie as tie
@@ -6,54 +5,57 @@ use Rattle.frames.proofs.steps.begin.Reads as reads
 use Rattle.frames.proofs.steps.begin.Lts as lts
 use Rattle.frames.proofs.steps.stop.Reads as stop-reads
 use Rattle.frames.proofs.steps.take_head.Reads as take-head-reads
+use Rattle.frames.proofs.Fitting.{head-limits}
+use Rattle.frames.proofs.Judging.{not-head, begins-head}
+use Rattle.frames.proofs.Standing.{halted-left, left-as}
 
--- src/steps.rt:403:20
+-- src/steps.rt:380:20
 enum-known-read : tie.Need-enum-known-read
 enum-known-read c = search needs
 
--- src/steps.rt:404:9
+-- src/steps.rt:381:9
 stop-requires : tie.Need-stop-requires
 stop-requires c κs = search needs
 
--- src/steps.rt:404:9
+-- src/steps.rt:381:9
 same-length : tie.Need-same-length
 same-length c = search needs
 
--- src/steps.rt:404:9
+-- src/steps.rt:381:9
 returns : tie.Need-returns
-returns c = search needs
+returns c = halted-left _ _ _ _ _ _ _ _ _ (not-head _ _ _ (c .before .before .before .before .match .keys2)) (c .before .before .stop .ensures)
 
--- src/steps.rt:406:5
+-- src/steps.rt:383:5
 take-head-requires : tie.Need-take-head-requires
-take-head-requires c κs = (head-limits _ _ _ _ (c .before .before .before .before .before .before .before .read .given .1) (c .before .before .before .before .before .before .before .before .before .before .before .before .before .before .before .before .before .before .pre .1 .0), (c .before .before .before .before .before .before .before .before .before .before .before .before .before .before .before .before .before .before .pre .1 .1 .0, (c .before .before .before .before .before .before .before .before .before .before .before .before .before .before .before .before .before .before .pre .1 .1 .1, c .before .before .before .before .before .before .before .before .before .before .before .before .before .before .before .before .before .before .pre .0)))
+take-head-requires c κs = (head-limits _ _ _ _ (c .before .before .before .before .before .before .before .read .given .1) (c .before .before .before .before .before .before .before .before .before .before .before .before .before .before .before .before .before .before .before .pre .1 .0), (c .before .before .before .before .before .before .before .before .before .before .before .before .before .before .before .before .before .before .before .pre .1 .1 .0, (c .before .before .before .before .before .before .before .before .before .before .before .before .before .before .before .before .before .before .before .pre .1 .1 .1, c .before .before .before .before .before .before .before .before .before .before .before .before .before .before .before .before .before .before .before .pre .0)))
 
--- src/steps.rt:383:1
+-- src/steps.rt:359:1
 same-length-2 : tie.Need-same-length-2
 same-length-2 c = search needs
 
--- src/steps.rt:383:1
+-- src/steps.rt:359:1
 same-length-3 : tie.Need-same-length-3
 same-length-3 c = search needs
 
--- src/steps.rt:383:1
+-- src/steps.rt:359:1
 same-length-4 : tie.Need-same-length-4
 same-length-4 c = search needs
 
--- src/steps.rt:383:1
+-- src/steps.rt:359:1
 same-length-5 : tie.Need-same-length-5
 same-length-5 c = search needs
 
--- src/steps.rt:383:1
+-- src/steps.rt:359:1
 same-length-6 : tie.Need-same-length-6
 same-length-6 c = search needs
 
--- src/steps.rt:383:1
+-- src/steps.rt:359:1
 same-length-7 : tie.Need-same-length-7
 same-length-7 c = search needs
 
--- src/steps.rt:383:1
+-- src/steps.rt:359:1
 returns-2 : tie.Need-returns-2
-returns-2 c = search needs
+returns-2 c = left-as _ _ _ _ _ _ _ _ _ (begins-head _ _ _ _ _ _ (c .before .before .before .before .before .before .before .before .before .before .before .before .before .before .before .before .before .before .before .before .read .given .1)) (c .before .before .before .before .before .before .before .before .before .before .before .before .take-head .ensures)
 
 pub begin-spec : {M : Type 1} → statement M
 begin-spec =

@@ -1,0 +1,41 @@
+use borrow.Author.Needs.{needs}
+use Rattle.frames.proofs.steps.take_unended.Statement.{statement}
+use Rattle.frames.proofs.steps.take_unended.Tie as tie
+use Rattle.frames.proofs.steps.take_unended.Reads as reads
+use Rattle.frames.proofs.steps.take_unended.Lts as lts
+use Rattle.frames.proofs.steps.stop.Reads as stop-reads
+use Rattle.frames.proofs.Standing.{unended-beyond, unended-cut}
+use native.Mathlib.Omega.{arith}
+
+-- src/steps.rt:587:16
+add-line : tie.Need-add-line
+add-line c = search needs
+
+-- src/steps.rt:589:9
+stop-requires : tie.Need-stop-requires
+stop-requires c κs = search needs
+
+-- src/steps.rt:589:9
+same-length : tie.Need-same-length
+same-length c = search needs
+
+-- src/steps.rt:589:9
+returns : tie.Need-returns
+returns c = unended-beyond _ _ _ _ _ _ (c .before .before .before .before .before .before .pre .0) (c .before .before .before .before .if1 .taken) (c .before .before .stop .ensures)
+
+-- src/steps.rt:591:5
+stop-requires-2 : tie.Need-stop-requires-2
+stop-requires-2 c κs = search needs
+
+-- src/steps.rt:581:1
+same-length-2 : tie.Need-same-length-2
+same-length-2 c = search needs
+
+-- src/steps.rt:581:1
+returns-2 : tie.Need-returns-2
+returns-2 c = unended-cut _ _ _ _ _ _ (c .before .before .before .before .before .before .pre .0) (omega (arith, c .before .before .before .before .if1 .left)) (c .before .before .stop2 .ensures)
+
+pub take-unended-spec : {M : Type 1} → statement M
+take-unended-spec =
+    tie.close
+    (tie.spec add-line stop-requires same-length returns stop-requires-2 same-length-2 returns-2)
