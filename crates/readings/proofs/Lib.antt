@@ -2,3 +2,4 @@ pub mod Digits
 pub mod Texts
 pub mod Shapes
 pub mod Cuts
+pub mod Unique
