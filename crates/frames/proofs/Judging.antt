@@ -16,12 +16,11 @@ use Rattle.hexlines.proofs.Growing.{wrote-none}
 use Rattle.hexlines.specs.Outputs.{Out, textOf}
 use Rattle.hexlines.specs.Writers.{Wrote}
 use Rattle.maps.specs.Lists.{startsOf}
-use Rattle.readings.proofs.Shapes.{small-bytes}
-use Rattle.readings.proofs.Texts.{text-one}
+use Rattle.readings.proofs.Unique.{read-one}
 use Rattle.readings.proofs.Line as Told-line
 use Rattle.readings.specs.declared.Line.{Line}
 use Rattle.readings.specs.declared.Line.the-variants.{Head, Arc, Question, Drive, Wrong}
-use Rattle.readings.specs.Frames.{Frame, head, arc, question, drive, bytesOf, Fits, ReadAs, Reads, Tells}
+use Rattle.readings.specs.Frames.{Frame, head, arc, question, drive, ReadAs, Reads, Tells}
 use Rattle.frames.specs.declared.State.{State}
 use Rattle.frames.specs.declared.Phase.the-variants.{Loading}
 use Rattle.frames.specs.Held.{Answered, Printed, Thinned, stageIf}
@@ -256,43 +255,6 @@ not-asked ℓ read nodes M good over out at out′ at′ o p w =
     none (Drive count) o p f q d = miss (0 ∷ 1 ∷ 2 ∷ 4 ∷ []) 3 tt p
     none Wrong o p f q d = q
 
--- two frames of one text are alike in whether they may come
-head-due : {s : Stage} {n m k n′ m′ k′ : ℕ} → Due s (head n m k) → Due s (head n′ m′ k′)
-head-due first = first
-
-arc-due : {s : Stage} {t h w h′ w′ : ℕ} → Due s (arc t h w) → Due s (arc t h′ w′)
-arc-due (next a b) = next a b
-
-question-due : {s : Stage} {a b a′ b′ : ℕ} → Due s (question a b) → Due s (question a′ b′)
-question-due asked = asked
-
-drive-due : {s : Stage} {l l′ : List ℕ} → Due s (drive l) → Due s (drive l′)
-drive-due driven = driven
-
-byte-alike : (f g : Frame) (p : ℕ) → bytesOf f ≡ bytesOf g → getD (bytesOf f) p 0 ≡ getD (bytesOf g) p 0
-byte-alike f g p q = ap (λ (l : List ℕ). getD l p 0) q
-
-due-alike : (s : Stage) (f g : Frame) → bytesOf f ≡ bytesOf g → Fits f → Fits g → Due s f → Due s g
-due-alike s (head n m k) (head n′ m′ k′) q a b d = head-due d
-due-alike s (head n m k) (arc t h w) q a b d = absurd (omega (arith, byte-alike (head n m k) (arc t h w) 0 q))
-due-alike s (head n m k) (question x y) q a b d = absurd (omega (arith, byte-alike (head n m k) (question x y) 0 q))
-due-alike s (head n m k) (drive l) q a b d = absurd (omega (arith, byte-alike (head n m k) (drive l) 0 q))
-due-alike s (arc t h w) (head n m k) q a b d = absurd (omega (arith, byte-alike (arc t h w) (head n m k) 0 q))
-due-alike s (arc t h w) (arc t′ h′ w′) q a b d =
-    let high = byte-alike (arc t h w) (arc t′ h′ w′) 1 q in
-    let low = byte-alike (arc t h w) (arc t′ h′ w′) 2 q in
-    let e : t ≡ t′ = omega (arith, a .0, b .0, high, low) in subst (λ (x : ℕ). Due s (arc x h′ w′)) e (arc-due d)
-due-alike s (arc t h w) (question x y) q a b d = absurd (omega (arith, byte-alike (arc t h w) (question x y) 0 q))
-due-alike s (arc t h w) (drive l) q a b d = absurd (omega (arith, byte-alike (arc t h w) (drive l) 0 q))
-due-alike s (question x y) (head n m k) q a b d = absurd (omega (arith, byte-alike (question x y) (head n m k) 0 q))
-due-alike s (question x y) (arc t h w) q a b d = absurd (omega (arith, byte-alike (question x y) (arc t h w) 0 q))
-due-alike s (question x y) (question x′ y′) q a b d = question-due d
-due-alike s (question x y) (drive l) q a b d = absurd (omega (arith, byte-alike (question x y) (drive l) 0 q))
-due-alike s (drive l) (head n m k) q a b d = absurd (omega (arith, byte-alike (drive l) (head n m k) 0 q))
-due-alike s (drive l) (arc t h w) q a b d = absurd (omega (arith, byte-alike (drive l) (arc t h w) 0 q))
-due-alike s (drive l) (question x y) q a b d = absurd (omega (arith, byte-alike (drive l) (question x y) 0 q))
-due-alike s (drive l) (drive l′) q a b d = drive-due d
-
 -- what is told of a line is a frame of which its text is
 module _ (bytes : List ℕ) (nodes nodes′ : List ℕ) where
   abbrev Reading : Frame → Type 0
@@ -321,18 +283,12 @@ module _ (bytes : List ℕ) (nodes nodes′ : List ℕ) where
       record { frame = drive (h .0); says = ap drive (sym (drive-front count (h .0) (h .2) (h .3))); reads = h .1 }
   told-frame Wrong h f r = absurd (h .0 f r)
 
-  due-told : (s : Stage) (told : Line) → Tells Reading told nodes nodes′ → (f : Frame) → Reading f → Due s f → (t : Told told) → Due s (t .frame)
-  due-told s told h f r d t =
-      due-alike s f (t .frame)
-      (text-one (bytesOf f) (bytesOf (t .frame)) (small-bytes f) (small-bytes (t .frame)) (sym (r .text) ∙ t .reads .text))
-      (r .fits) (t .reads .fits) d
-
   judged-steps :
       (ℓ : ℕ) (s : Stage) (told : Line) (x : Stage) (o : List Out) → Tells Reading told nodes nodes′ → ℓ ≤ 65535 → Runs s →
       Judged ℓ s told nodes′ x o → Step ℓ s (line bytes) x o
   judged-steps ℓ s told x o h b r (undue f) =
       wrong r b
-      (λ g q d. let t = told-frame told h g q in f (t .frame) (t .says) (due-told s told h g q d t))
+      (λ g q d. let t = told-frame told h g q in f (t .frame) (t .says) (subst (Due s) (read-one 64 bytes g (t .frame) q (t .reads)) d))
   judged-steps ℓ s told x o h b r (due {f = g} q d e) = taken b (told-reads told h g q) d e
 
   pub judged-step :
