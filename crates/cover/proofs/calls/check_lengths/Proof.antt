@@ -29,7 +29,13 @@ returns-7 : tie.Need-returns-7
 returns-7 c = refuses (inr (inr (inr (inr (inr (inr (inl (c .if7 .taken))))))))
 
 returns-8 : tie.Need-returns-8
-returns-8 c = passes (⊎-elim (λ d. d (c .before .before .before .before .before .before .before .before .before .before .before .before .if1 .left)) (⊎-elim (λ d. d (c .before .before .before .before .before .before .before .before .before .before .if2 .left)) (⊎-elim (λ d. d (c .before .before .before .before .before .before .before .before .if3 .left)) (⊎-elim (λ d. d (c .before .before .before .before .before .before .if4 .left)) (⊎-elim (λ d. d (c .before .before .before .before .if5 .left)) (⊎-elim (λ d. d (c .before .before .if6 .left)) (⊎-elim (λ d. d (c .if7 .left)) (λ z. z))))))))
+returns-8 c =
+    let the-if1 = c .before .before .before .before .before .before .before .before .before .before .before .before .if1 in
+    let the-if2 = c .before .before .before .before .before .before .before .before .before .before .if2 in
+    let the-if3 = c .before .before .before .before .before .before .before .before .if3 in
+    let the-if4 = c .before .before .before .before .before .before .if4 in
+    let the-if5 = c .before .before .before .before .if5 in
+    passes (⊎-elim (λ d. d (the-if1 .left)) (⊎-elim (λ d. d (the-if2 .left)) (⊎-elim (λ d. d (the-if3 .left)) (⊎-elim (λ d. d (the-if4 .left)) (⊎-elim (λ d. d (the-if5 .left)) (⊎-elim (λ d. d (c .before .before .if6 .left)) (⊎-elim (λ d. d (c .if7 .left)) (λ z. z))))))))
 
 pub check-lengths-spec : {M : Type 1} → statement M
 check-lengths-spec =

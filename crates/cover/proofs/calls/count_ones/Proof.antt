@@ -33,9 +33,10 @@ loop-less c = search needs
 
 loop-again : tie.Need-loop-again Inv-loop μ-loop
 loop-again c =
+    let start = c .before .before .before .before in
     ⊎-elim
-    (λ w. (omega (arith, c .before .before .before .loop .inv .0, times-met (c .before .before .before .before .args .s .now) (c .before .before .before .loop .i) 1 (c .before .before .loop-test .taken) (w .0 .taken)), omega arith, omega arith))
-    (λ w. (omega (arith, c .before .before .before .loop .inv .0, times-missed (c .before .before .before .before .args .s .now) (c .before .before .before .loop .i) 1 (c .before .before .loop-test .taken) (w .0 .left)), omega arith, omega arith))
+    (λ w. (omega (arith, c .before .before .before .loop .inv .0, times-met (start .args .s .now) (c .before .before .before .loop .i) 1 (c .before .before .loop-test .taken) (w .0 .taken)), omega arith, omega arith))
+    (λ w. (omega (arith, c .before .before .before .loop .inv .0, times-missed (start .args .s .now) (c .before .before .before .loop .i) 1 (c .before .before .loop-test .taken) (w .0 .left)), omega arith, omega arith))
     (c .if1 .came)
 
 returns : tie.Need-returns Inv-loop μ-loop

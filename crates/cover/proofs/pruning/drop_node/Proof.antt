@@ -29,19 +29,34 @@ slice-write-pieces : tie.Need-slice-write-pieces
 slice-write-pieces c = search needs
 
 spread-requires : tie.Need-spread-requires
-spread-requires c κs = (still-prunable _ _ _ _ _ _ _ (c .before .before .before .before .before .before .before .before .before .before .before .before .before .before .before .args .sizes .now) (c .before .before .before .before .before .before .before .before .before .before .before .before .before .before .before .pre .0) (c .before .before .before .before .before .before .before .before .before .before .before .before .before .before .before .args .pieces .now) _ (c .before .before .before .before .before .before .before .before .before .before .before .before .before .before .before .pre .1 .1 .0) _ _ (c .before .before .before .before .before .before .before .before .before .before .before .before .before .before .before .pre .1 .1 .1 .0) (c .before .before .before .before .before .before .before .before .before .before .before .before .before .before .before .pre .1 .1 .1 .1) _ _ _ (c .before .before .before .before .wide .ensures) (c .before .before .before .wide2 .ensures) (omega arith), drop-spreads _ _ _ _ _ _ _ (c .before .before .before .before .before .before .before .before .before .before .before .before .before .before .before .args .sizes .now) (c .before .before .before .before .before .before .before .before .before .before .before .before .before .before .before .pre .0) (c .before .before .before .before .before .before .before .before .before .before .before .before .before .before .before .args .pieces .now) _ (c .before .before .before .before .before .before .before .before .before .before .before .before .before .before .before .pre .1 .1 .0) _ _ (c .before .before .before .before .before .before .before .before .before .before .before .before .before .before .before .pre .1 .1 .1 .0) (c .before .before .before .before .before .before .before .before .before .before .before .before .before .before .before .pre .1 .1 .1 .1) _ _ _ (c .before .before .before .before .wide .ensures) (c .before .before .before .wide2 .ensures) (omega arith) _ refl)
+spread-requires c κs =
+    let start = c .before .before .before .before .before .before .before .before .before .before .before .before .before .before .before in
+    let the-wide = c .before .before .before .before .wide in
+    (still-prunable _ _ _ _ _ _ _ (start .args .sizes .now) (start .pre .0) (start .args .pieces .now) _ (start .pre .1 .1 .0) _ _ (start .pre .1 .1 .1 .0) (start .pre .1 .1 .1 .1) _ _ _ (the-wide .ensures) (c .before .before .before .wide2 .ensures) (omega arith), drop-spreads _ _ _ _ _ _ _ (start .args .sizes .now) (start .pre .0) (start .args .pieces .now) _ (start .pre .1 .1 .0) _ _ (start .pre .1 .1 .1 .0) (start .pre .1 .1 .1 .1) _ _ _ (the-wide .ensures) (c .before .before .before .wide2 .ensures) (omega arith) _ refl)
 
 same-length : tie.Need-same-length
 same-length c = search needs
 
 same-length-2 : tie.Need-same-length-2
-same-length-2 c = c .before .before .before .before .spread .kept .1 .1 .1 .1 .1 .1 .1 .0 ∙ length-set (c .before .before .before .before .before .before .before .before .before .before .before .before .before .before .before .before .before .before .before .before .args .pieces .now) 0 (c .before .before .before .before .before .before .before .before .before .before .before .before .before .before .before .before .before .before .before .before .args .v)
+same-length-2 c =
+    let start = c .before .before .before .before .before .before .before .before .before .before .before .before .before .before .before .before .before .before .before .before in
+    let the-spread = c .before .before .before .before .spread in
+    the-spread .kept .1 .1 .1 .1 .1 .1 .1 .0 ∙ length-set (start .args .pieces .now) 0 (start .args .v)
 
 same-length-3 : tie.Need-same-length-3
-same-length-3 c = c .before .before .before .before .spread .kept .1 .1 .1 .1 .1 .1 .1 .1 .0 ∙ length-set (c .before .before .before .before .before .before .before .before .before .before .before .before .before .before .before .before .before .before .before .before .args .sizes .now) (c .before .before .before .before .before .before .before .before .wide2 .result) (c .before .before .before .before .before .before .before .before .before .before .before .before .before .before .before .before .before .before .before .before .args .r .0)
+same-length-3 c =
+    let start = c .before .before .before .before .before .before .before .before .before .before .before .before .before .before .before .before .before .before .before .before in
+    let the-wide2 = c .before .before .before .before .before .before .before .before .wide2 in
+    let the-spread = c .before .before .before .before .spread in
+    the-spread .kept .1 .1 .1 .1 .1 .1 .1 .1 .0 ∙ length-set (start .args .sizes .now) (the-wide2 .result) (start .args .r .0)
 
 returns : tie.Need-returns
-returns c = (ap (λ (z : ℕ). set (c .before .before .before .before .before .before .before .before .before .before .before .before .before .before .before .before .before .before .before .before .args .cover .now) z 0) (c .before .before .before .before .before .before .before .before .before .wide .ensures), drop-keeps _ _ _ _ _ _ _ (c .before .before .before .before .before .before .before .before .before .before .before .before .before .before .before .before .before .before .before .before .args .sizes .now) (c .before .before .before .before .before .before .before .before .before .before .before .before .before .before .before .before .before .before .before .before .pre .0) (c .before .before .before .before .before .before .before .before .before .before .before .before .before .before .before .before .before .before .before .before .args .pieces .now) _ (c .before .before .before .before .before .before .before .before .before .before .before .before .before .before .before .before .before .before .before .before .pre .1 .1 .0) _ _ (c .before .before .before .before .before .before .before .before .before .before .before .before .before .before .before .before .before .before .before .before .pre .1 .1 .1 .0) (c .before .before .before .before .before .before .before .before .before .before .before .before .before .before .before .before .before .before .before .before .pre .1 .1 .1 .1) _ _ _ (c .before .before .before .before .before .before .before .before .before .wide .ensures) (c .before .before .before .before .before .before .before .before .wide2 .ensures) (omega arith) _ refl (c .before .before .before .before .spread .ensures) (c .before .before .before .before .spread .kept .1 .1 .1 .1 .1 .1 .1 .1 .0) (c .before .before .before .before .spread .kept .1 .1 .1 .1 .1 .1 .1 .0))
+returns c =
+    let start = c .before .before .before .before .before .before .before .before .before .before .before .before .before .before .before .before .before .before .before .before in
+    let the-wide = c .before .before .before .before .before .before .before .before .before .wide in
+    let the-wide2 = c .before .before .before .before .before .before .before .before .wide2 in
+    let the-spread = c .before .before .before .before .spread in
+    (ap (λ (z : ℕ). set (start .args .cover .now) z 0) (the-wide .ensures), drop-keeps _ _ _ _ _ _ _ (start .args .sizes .now) (start .pre .0) (start .args .pieces .now) _ (start .pre .1 .1 .0) _ _ (start .pre .1 .1 .1 .0) (start .pre .1 .1 .1 .1) _ _ _ (the-wide .ensures) (the-wide2 .ensures) (omega arith) _ refl (the-spread .ensures) (the-spread .kept .1 .1 .1 .1 .1 .1 .1 .1 .0) (the-spread .kept .1 .1 .1 .1 .1 .1 .1 .0))
 
 pub drop-node-spec : {M : Type 1} → statement M
 drop-node-spec =

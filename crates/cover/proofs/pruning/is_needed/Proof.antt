@@ -18,18 +18,22 @@ wide-requires : tie.Need-wide-requires
 wide-requires c κs = search needs
 
 longest-requires : tie.Need-longest-requires
-longest-requires c κs = (
-  search-forth _ _ _ _ _ _ _ (c .before .before .before .before .before .before .before .before .before .before .pre .0),
-  (
-    omega arith,
-    omega (arith, c .before .before .of .ensures .1, c .before .before .before .before .before .before .before .before .before .before .pre .1 .0 .most, c .before .before .before .before .before .before .before .before .before .before .pre .1 .0 .some),
-  ),
-)
+longest-requires c κs =
+    let start = c .before .before .before .before .before .before .before .before .before .before in (
+      search-forth _ _ _ _ _ _ _ (start .pre .0),
+      (
+        omega arith,
+        omega (arith, c .before .before .of .ensures .1, start .pre .1 .0 .most, start .pre .1 .0 .some),
+      ),
+    )
 
 returns : tie.Need-returns
 returns c =
-    needed-told _ _ _ _ _ _ _ (c .before .before .before .before .before .before .before .before .before .before .before .before .before .before .pre .0 .sound) (c .before .before .before .before .before .before .before .before .before .before .before .before .before .before .pre .0 .turned .round) _ _ _ (omega (arith, c .before .before .before .before .before .before .before .before .before .before .before .before .before .before .pre .0 .bytes, c .before .before .before .before .before .before .before .before .before .before .before .before .before .before .pre .1 .1)) (c .before .before .before .before .before .before .before .before .before .before .before .before .before .before .pre .1 .0 .some)
-    (tells-yes (ends (record { outward = rw (c .before .before .before .before .before .before .of .ensures .0, c .before .before .before .before .wide .ensures, c .if1 .taken) at (c .before .before .before .longest .ensures .reached) })))
+    let start = c .before .before .before .before .before .before .before .before .before .before .before .before .before .before in
+    let the-of = c .before .before .before .before .before .before .of in
+    let the-wide = c .before .before .before .before .wide in
+    needed-told _ _ _ _ _ _ _ (start .pre .0 .sound) (start .pre .0 .turned .round) _ _ _ (omega (arith, start .pre .0 .bytes, start .pre .1 .1)) (start .pre .1 .0 .some)
+    (tells-yes (ends (record { outward = rw (the-of .ensures .0, the-wide .ensures, c .if1 .taken) at (c .before .before .before .longest .ensures .reached) })))
 
 wide-requires-2 : tie.Need-wide-requires-2
 wide-requires-2 c κs = search needs
@@ -38,27 +42,33 @@ wide-requires-3 : tie.Need-wide-requires-3
 wide-requires-3 c κs = search needs
 
 inward-requires : tie.Need-inward-requires
-inward-requires c κs = (
-  search-forth _ _ _ _ _ _ _ (c .before .before .before .before .before .before .before .before .before .before .before .before .before .before .before .before .pre .0),
-  (
-    search-back _ _ _ _ _ _ _ (c .before .before .before .before .before .before .before .before .before .before .before .before .before .before .before .before .pre .0),
-    (
-      omega arith,
+inward-requires c κs =
+    let start = c .before .before .before .before .before .before .before .before .before .before .before .before .before .before .before .before in
+    let the-of = c .before .before .before .before .before .before .before .before .of in
+    let the-wide = c .before .before .before .before .before .before .wide in
+    let the-longest = c .before .before .before .before .before .longest in (
+      search-forth _ _ _ _ _ _ _ (start .pre .0),
       (
-        omega arith,
+        search-back _ _ _ _ _ _ _ (start .pre .0),
         (
-          omega (arith, c .before .before .before .before .before .before .before .before .of .ensures .1, c .before .before .before .before .before .before .before .before .before .before .before .before .before .before .before .before .pre .1 .0 .most, c .before .before .before .before .before .before .before .before .before .before .before .before .before .before .before .before .pre .1 .0 .some),
-          rw (c .wide3 .ensures) (rw (c .before .before .before .before .before .before .wide .ensures) at (within-of _ _ _ _ _ _ _ (c .before .before .before .before .before .longest .ensures))),
+          omega arith,
+          (
+            omega arith,
+            (
+              omega (arith, the-of .ensures .1, start .pre .1 .0 .most, start .pre .1 .0 .some),
+              rw (c .wide3 .ensures) (rw (the-wide .ensures) at (within-of _ _ _ _ _ _ _ (the-longest .ensures))),
+            ),
+          ),
         ),
       ),
-    ),
-  ),
-)
+    )
 
 returns-2 : tie.Need-returns-2
 returns-2 c =
-    needed-told _ _ _ _ _ _ _ (c .before .before .before .before .before .before .before .before .before .before .before .before .before .before .before .before .before .pre .0 .sound) (c .before .before .before .before .before .before .before .before .before .before .before .before .before .before .before .before .before .pre .0 .turned .round) _ _ _ (omega (arith, c .before .before .before .before .before .before .before .before .before .before .before .before .before .before .before .before .before .pre .0 .bytes, c .before .before .before .before .before .before .before .before .before .before .before .before .before .before .before .before .before .pre .1 .1)) (c .before .before .before .before .before .before .before .before .before .before .before .before .before .before .before .before .before .pre .1 .0 .some)
-    (rw (c .before .before .before .before .before .before .before .before .before .of .ensures .0, c .before .before .wide2 .ensures, c .before .wide3 .ensures) at (c .inward .ensures))
+    let start = c .before .before .before .before .before .before .before .before .before .before .before .before .before .before .before .before .before in
+    let the-of = c .before .before .before .before .before .before .before .before .before .of in
+    needed-told _ _ _ _ _ _ _ (start .pre .0 .sound) (start .pre .0 .turned .round) _ _ _ (omega (arith, start .pre .0 .bytes, start .pre .1 .1)) (start .pre .1 .0 .some)
+    (rw (the-of .ensures .0, c .before .before .wide2 .ensures, c .before .wide3 .ensures) at (c .inward .ensures))
 
 pub is-needed-spec : {M : Type 1} → statement M
 is-needed-spec =

@@ -26,16 +26,27 @@ shared-slice-read-take-node : tie.Need-shared-slice-read-take-node Inv-loop μ-l
 shared-slice-read-take-node c = search needs
 
 take-node-requires : tie.Need-take-node-requires Inv-loop μ-loop
-take-node-requires c κs = (prunable-still _ _ _ _ _ _ _ _ (c .before .before .before .before .before .before .before .before .before .before .before .before .before .before .before .before .pre .0) (c .before .before .before .before .before .loop .inv .0 .long), (c .before .before .before .before .before .before .before .before .before .before .before .before .before .before .before .before .pre .1 .0, (c .before .before .before .before .before .loop .inv .1, node-at (c .before .before .before .before .before .before .before .before .before .before .before .before .before .before .before .before .args .order .now) (c .before .before .before .before .before .before .before .before .before .before .before .before .before .before .before .before .args .cover .now) (c .before .before .before .before .before .loop .cover) _ (c .before .before .before .before .before .before .before .before .before .before .before .before .before .before .before .before .pre .1 .1 .1) (c .before .before .before .before .before .loop .inv .0 .long) (c .before .before .before .before .loop-test .taken))))
+take-node-requires c κs =
+    let start = c .before .before .before .before .before .before .before .before .before .before .before .before .before .before .before .before in
+    let the-loop = c .before .before .before .before .before .loop in
+    let the-loop-test = c .before .before .before .before .loop-test in
+    (prunable-still _ _ _ _ _ _ _ _ (start .pre .0) (the-loop .inv .0 .long), (start .pre .1 .0, (the-loop .inv .1, node-at (start .args .order .now) (start .args .cover .now) (the-loop .cover) _ (start .pre .1 .1 .1) (the-loop .inv .0 .long) (the-loop-test .taken))))
 
 add-i : tie.Need-add-i Inv-loop μ-loop
-add-i c = omega (arith, c .before .before .before .before .before .before .before .before .before .before .before .loop-test .taken, c .before .before .before .before .before .before .before .before .before .before .before .before .before .before .before .before .before .before .before .before .before .before .before .good .1 .1 .1 .1 .1 .1 .1 .0 .1)
+add-i c =
+    let start = c .before .before .before .before .before .before .before .before .before .before .before .before .before .before .before .before .before .before .before .before .before .before .before in
+    let the-loop-test = c .before .before .before .before .before .before .before .before .before .before .before .loop-test in
+    omega (arith, the-loop-test .taken, start .good .1 .1 .1 .1 .1 .1 .1 .0 .1)
 
 loop-less : tie.Need-loop-less Inv-loop μ-loop
 loop-less c = search needs
 
 loop-again : tie.Need-loop-again Inv-loop μ-loop
-loop-again c = (going-on _ _ _ _ _ (c .before .before .before .before .before .before .before .before .before .before .before .before .loop .inv .0) (c .before .before .before .before .before .before .before .before .before .before .before .loop-test .taken) (c .before .before .before .before .before .before .take-node .ensures .0), c .before .before .before .before .before .before .take-node .ensures .1)
+loop-again c =
+    let the-loop = c .before .before .before .before .before .before .before .before .before .before .before .before .loop in
+    let the-loop-test = c .before .before .before .before .before .before .before .before .before .before .before .loop-test in
+    let the-take-node = c .before .before .before .before .before .before .take-node in
+    (going-on _ _ _ _ _ (the-loop .inv .0) (the-loop-test .taken) (the-take-node .ensures .0), the-take-node .ensures .1)
 
 same-length : tie.Need-same-length Inv-loop μ-loop
 same-length c = c .before .loop .inv .0 .long

@@ -13,9 +13,10 @@ too-few-requires c κs = search needs
 
 returns-2 : tie.Need-returns-2
 returns-2 c =
+    let start = c .before .before .before .before .before .before .before .before .before .before .before .before .before in
     tells-no
-    (few-stays-not (c .before .before .before .before .before .before .before .before .before .before .before .before .before .args .starts .now) (c .before .before .before .before .before .before .before .before .before .before .before .before .before .args .heads .now) (c .before .before .before .before .before .before .before .before .before .before .before .before .before .args .weights .now) (c .before .before .before .before .before .before .before .before .before .before .before .before .before .args .starts-back .now) (c .before .before .before .before .before .before .before .before .before .before .before .before .before .args .heads-back .now) (c .before .before .before .before .before .before .before .before .before .before .before .before .before .args .weights-back .now) (c .before .before .before .before .before .before .before .before .before .before .before .before .before .args .cover .now) (c .before .before .before .before .before .before .before .before .before .before .before .before .before .args .k .0) (c .before .before .before .before .before .before .before .before .before .before .before .before .before .args .v) (c .before .too-few .result)
-    (c .before .before .before .before .before .before .before .before .before .before .before .before .before .pre .0) (c .before .before .before .before .before .before .before .before .before .before .before .before .before .pre .1 .1 .1) (c .before .too-few .ensures) (c .if2 .taken))
+    (few-stays-not (start .args .starts .now) (start .args .heads .now) (start .args .weights .now) (start .args .starts-back .now) (start .args .heads-back .now) (start .args .weights-back .now) (start .args .cover .now) (start .args .k .0) (start .args .v) (c .before .too-few .result)
+    (start .pre .0) (start .pre .1 .1 .1) (c .before .too-few .ensures) (c .if2 .taken))
 
 is-needed-requires : tie.Need-is-needed-requires
 is-needed-requires c κs = search needs

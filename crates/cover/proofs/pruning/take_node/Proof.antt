@@ -8,7 +8,9 @@ size-for-requires : tie.Need-size-for-requires
 size-for-requires c κs = search needs
 
 stays-requires : tie.Need-stays-requires
-stays-requires c κs = (c .before .before .before .before .before .before .before .before .before .before .before .before .before .before .before .pre .0, (c .before .before .before .before .before .before .before .before .before .before .before .before .before .before .before .pre .1 .0, (c .before .before .size-for .ensures, c .before .before .before .before .before .before .before .before .before .before .before .before .before .before .before .pre .1 .1 .1)))
+stays-requires c κs =
+    let start = c .before .before .before .before .before .before .before .before .before .before .before .before .before .before .before in
+    (start .pre .0, (start .pre .1 .0, (c .before .before .size-for .ensures, start .pre .1 .1 .1)))
 
 same-length : tie.Need-same-length
 same-length c = search needs
@@ -23,7 +25,10 @@ returns : tie.Need-returns
 returns c = (kept (c .before .stays .ensures .yes (c .if1 .taken)) refl, c .before .before .before .before .before .before .before .before .before .before .before .before .before .before .before .before .before .pre .1 .1 .0)
 
 drop-node-requires : tie.Need-drop-node-requires
-drop-node-requires c κs = (c .before .before .before .before .before .before .before .before .before .before .before .before .before .before .before .before .before .before .before .before .pre .0, (c .before .before .before .before .before .before .before .before .before .before .before .before .before .before .before .before .before .before .before .before .pre .1 .0, (c .before .before .before .before .before .before .before .before .before .before .before .before .before .before .before .before .before .before .before .before .pre .1 .1 .0, (c .before .before .before .before .before .before .before .size-for .ensures, c .before .before .before .before .before .before .before .before .before .before .before .before .before .before .before .before .before .before .before .before .pre .1 .1 .1))))
+drop-node-requires c κs =
+    let start = c .before .before .before .before .before .before .before .before .before .before .before .before .before .before .before .before .before .before .before .before in
+    let the-size-for = c .before .before .before .before .before .before .before .size-for in
+    (start .pre .0, (start .pre .1 .0, (start .pre .1 .1 .0, (the-size-for .ensures, start .pre .1 .1 .1))))
 
 same-length-4 : tie.Need-same-length-4
 same-length-4 c = search needs
@@ -35,7 +40,11 @@ same-length-6 : tie.Need-same-length-6
 same-length-6 c = search needs
 
 returns-2 : tie.Need-returns-2
-returns-2 c = (dropped (c .before .before .before .before .before .before .before .before .before .before .before .stays .ensures .no (c .before .before .before .before .before .before .before .before .before .before .if1 .left)) (c .before .before .before .before .before .before .drop-node .ensures .0), c .before .before .before .before .before .before .drop-node .ensures .1)
+returns-2 c =
+    let the-stays = c .before .before .before .before .before .before .before .before .before .before .before .stays in
+    let the-if1 = c .before .before .before .before .before .before .before .before .before .before .if1 in
+    let the-drop-node = c .before .before .before .before .before .before .drop-node in
+    (dropped (the-stays .ensures .no (the-if1 .left)) (the-drop-node .ensures .0), the-drop-node .ensures .1)
 
 pub take-node-spec : {M : Type 1} → statement M
 take-node-spec =

@@ -24,7 +24,9 @@ loop-holds c = (omega arith, omega arith, omega arith)
 
 -- src/pruning.rt:67:13
 returns : tie.Need-returns Inv-loop μ-loop
-returns c = enough (c .before .before .before .before .args .cover .now) (c .before .before .before .before .args .k .0)
+returns c =
+    let start = c .before .before .before .before in
+    enough (start .args .cover .now) (start .args .k .0)
 
 -- src/pruning.rt:69:12
 shared-slice-read-if2 : tie.Need-shared-slice-read-if2 Inv-loop μ-loop
@@ -45,18 +47,25 @@ loop-less c = search needs
 -- src/pruning.rt:65:5
 loop-again : tie.Need-loop-again Inv-loop μ-loop
 loop-again c =
+    let start = c .before .before .before .before .before .before in
+    let the-loop = c .before .before .before .before .before .loop in
+    let the-loop-test = c .before .before .before .before .loop-test in
     ⊎-elim
-    (λ w. (omega (arith, c .before .before .before .before .before .loop .inv .0, times-met (c .before .before .before .before .before .before .args .cover .now) (c .before .before .before .before .before .loop .i) 0 (c .before .before .before .before .loop-test .taken) (w .0 .taken)), omega arith, omega arith))
-    (λ w. (omega (arith, c .before .before .before .before .before .loop .inv .0, times-missed (c .before .before .before .before .before .before .args .cover .now) (c .before .before .before .before .before .loop .i) 0 (c .before .before .before .before .loop-test .taken) (w .0 .left)), omega arith, omega arith))
+    (λ w. (omega (arith, the-loop .inv .0, times-met (start .args .cover .now) (the-loop .i) 0 (the-loop-test .taken) (w .0 .taken)), omega arith, omega arith))
+    (λ w. (omega (arith, the-loop .inv .0, times-missed (start .args .cover .now) (the-loop .i) 0 (the-loop-test .taken) (w .0 .left)), omega arith, omega arith))
     (c .if2 .came)
 
 -- src/pruning.rt:75:9
 returns-2 : tie.Need-returns-2 Inv-loop μ-loop
-returns-2 c = counted-few (c .before .before .before .before .args .cover .now) (c .before .before .before .before .args .k .0) (c .before .before .before .loop .nodes) (c .before .before .before .loop .i) (c .before .before .before .loop .inv .0) (omega (arith, c .before .before .loop-test .left)) (c .if3 .taken)
+returns-2 c =
+    let start = c .before .before .before .before in
+    counted-few (start .args .cover .now) (start .args .k .0) (c .before .before .before .loop .nodes) (c .before .before .before .loop .i) (c .before .before .before .loop .inv .0) (omega (arith, c .before .before .loop-test .left)) (c .if3 .taken)
 
 -- src/pruning.rt:60:1
 returns-3 : tie.Need-returns-3 Inv-loop μ-loop
-returns-3 c = enough (c .before .before .before .before .args .cover .now) (c .before .before .before .before .args .k .0)
+returns-3 c =
+    let start = c .before .before .before .before in
+    enough (start .args .cover .now) (start .args .k .0)
 
 pub too-few-spec : {M : Type 1} → statement M
 too-few-spec =

@@ -18,7 +18,10 @@ clear-queue-requires c κs = search needs
 
 -- src/asking.rt:68:5
 search-requires : tie.Need-search-requires
-search-requires c κs = asks-of _ _ _ _ _ _ _ (hand-searchable _ _ _ _ _ _ (c .before .before .before .before .before .before .before .before .before .before .before .before .before .before .before .before .before .before .before .before .before .before .before .before .before .pre) _ _ _ (c .before .before .before .before .before .before .before .before .before .before .before .before .clear-queue .ensures .0) (c .before .before .before .before .before .before .before .before .before .before .before .before .clear-queue .ensures .1) (c .before .before .before .before .before .before .before .before .before .before .before .before .clear-queue .ensures .3)) _ (c .before .before .before .before .before .before .before .before .before .before .before .before .before .before .before .before .before .before .before .before .before .before .before .before .before .pre .from)
+search-requires c κs =
+    let start = c .before .before .before .before .before .before .before .before .before .before .before .before .before .before .before .before .before .before .before .before .before .before .before .before .before in
+    let the-clear-queue = c .before .before .before .before .before .before .before .before .before .before .before .before .clear-queue in
+    asks-of _ _ _ _ _ _ _ (hand-searchable _ _ _ _ _ _ (start .pre) _ _ _ (the-clear-queue .ensures .0) (the-clear-queue .ensures .1) (the-clear-queue .ensures .3)) _ (start .pre .from)
 
 -- src/asking.rt:69:23
 mul-shown : tie.Need-mul-shown
@@ -58,7 +61,12 @@ same-length-5 c = search needs
 
 -- src/asking.rt:51:1
 returns : tie.Need-returns
-returns c = (told-at _ _ (row-any _ _ _ _ _ _ _ (hand-searchable _ _ _ _ _ _ (c .before .before .before .before .before .before .before .before .before .before .before .before .before .before .before .before .before .before .before .before .before .before .before .before .before .before .before .before .before .before .before .before .before .before .before .before .before .before .pre) _ _ _ (c .before .before .before .before .before .before .before .before .before .before .before .before .before .before .before .before .before .before .before .before .before .before .before .before .before .clear-queue .ensures .0) (c .before .before .before .before .before .before .before .before .before .before .before .before .before .before .before .before .before .before .before .before .before .before .before .before .before .clear-queue .ensures .1) (c .before .before .before .before .before .before .before .before .before .before .before .before .before .before .before .before .before .before .before .before .before .before .before .before .before .clear-queue .ensures .3)) _ _ (c .before .before .before .before .before .before .before .before .before .before .before .before .search .ensures .0) _ (c .before .before .before .before .before .before .before .before .before .before .before .before .before .before .before .before .before .before .before .before .before .before .before .before .before .before .before .before .before .before .before .before .before .before .before .before .before .before .pre .to)) (sym (c .before .before .before .before .shown .ensures)), hand-zero _ _ _ _ _ _ (c .before .before .before .before .before .before .before .before .before .before .before .before .before .before .before .before .before .before .before .before .before .before .before .before .before .before .before .before .before .before .before .before .before .before .before .before .before .before .pre) _ _ _ _ _ _ (c .before .before .clear-labels .ensures) (c .before .before .before .before .before .before .before .before .before .before .before .before .search .kept .1 .1 .1 .1 .1 .0) (c .before .before .before .before .before .before .before .before .before .before .before .before .search .ensures .1 .0 ∙ c .before .before .before .before .before .before .before .before .before .before .before .before .before .before .before .before .before .before .before .before .before .before .before .before .before .clear-queue .ensures .0) (c .before .before .before .before .before .before .before .before .before .before .before .before .search .ensures .1 .1 ∙ c .before .before .before .before .before .before .before .before .before .before .before .before .before .before .before .before .before .before .before .before .before .before .before .before .before .clear-queue .ensures .1) (c .before .before .before .before .before .before .before .before .before .before .before .before .before .before .before .before .before .before .before .before .before .before .before .before .before .clear-queue .ensures .2) (c .before .before .before .before .before .before .before .before .before .before .before .before .before .before .before .before .before .before .before .before .before .before .before .before .before .clear-queue .ensures .3))
+returns c =
+    let start = c .before .before .before .before .before .before .before .before .before .before .before .before .before .before .before .before .before .before .before .before .before .before .before .before .before .before .before .before .before .before .before .before .before .before .before .before .before .before in
+    let the-clear-queue = c .before .before .before .before .before .before .before .before .before .before .before .before .before .before .before .before .before .before .before .before .before .before .before .before .before .clear-queue in
+    let the-search = c .before .before .before .before .before .before .before .before .before .before .before .before .search in
+    let the-shown = c .before .before .before .before .shown in
+    (told-at _ _ (row-any _ _ _ _ _ _ _ (hand-searchable _ _ _ _ _ _ (start .pre) _ _ _ (the-clear-queue .ensures .0) (the-clear-queue .ensures .1) (the-clear-queue .ensures .3)) _ _ (the-search .ensures .0) _ (start .pre .to)) (sym (the-shown .ensures)), hand-zero _ _ _ _ _ _ (start .pre) _ _ _ _ _ _ (c .before .before .clear-labels .ensures) (the-search .kept .1 .1 .1 .1 .1 .0) (the-search .ensures .1 .0 ∙ the-clear-queue .ensures .0) (the-search .ensures .1 .1 ∙ the-clear-queue .ensures .1) (the-clear-queue .ensures .2) (the-clear-queue .ensures .3))
 
 pub ask-overlay-spec : {M : Type 1} → statement M
 ask-overlay-spec =

@@ -18,7 +18,11 @@ search-requires c κs = search needs
 
 -- src/asking.rt:103:5
 search-requires-2 : tie.Need-search-requires-2
-search-requires-2 c κs = asks-back _ _ _ _ _ _ _ _ _ _ _ _ _ (c .before .before .before .before .before .before .before .before .before .before .before .before .before .before .before .before .before .before .before .before .before .before .before .before .before .before .before .before .before .before .before .before .before .before .before .before .before .pre) _ _ _ (c .before .before .before .before .before .before .before .before .before .before .before .before .before .before .before .before .before .before .before .before .before .before .turn .ensures) (c .before .before .before .before .before .before .before .before .before .before .before .before .before .before .before .before .before .before .before .before .before .before .turn .kept .1 .1 .1 .0) _ _ (c .before .before .before .before .before .before .before .before .before .before .before .before .search .ensures .1 .0) (c .before .before .before .before .before .before .before .before .before .before .before .before .search .ensures .1 .1)
+search-requires-2 c κs =
+    let start = c .before .before .before .before .before .before .before .before .before .before .before .before .before .before .before .before .before .before .before .before .before .before .before .before .before .before .before .before .before .before .before .before .before .before .before .before .before in
+    let the-turn = c .before .before .before .before .before .before .before .before .before .before .before .before .before .before .before .before .before .before .before .before .before .before .turn in
+    let the-search = c .before .before .before .before .before .before .before .before .before .before .before .before .search in
+    asks-back _ _ _ _ _ _ _ _ _ _ _ _ _ (start .pre) _ _ _ (the-turn .ensures) (the-turn .kept .1 .1 .1 .0) _ _ (the-search .ensures .1 .0) (the-search .ensures .1 .1)
 
 -- src/asking.rt:75:1
 same-length : tie.Need-same-length
@@ -50,7 +54,12 @@ same-length-7 c = search needs
 
 -- src/asking.rt:75:1
 returns : tie.Need-returns
-returns c = (rows-found _ _ _ _ _ _ _ _ _ _ _ _ _ (c .before .before .before .before .before .before .before .before .before .before .before .before .before .before .before .before .before .before .before .before .before .before .before .before .before .before .before .before .before .before .before .before .before .before .before .before .before .before .before .before .before .before .before .before .pre) _ _ _ (c .before .before .before .before .before .before .before .before .before .before .before .before .before .before .before .before .before .before .before .before .before .before .before .before .before .before .before .before .before .turn .ensures) (c .before .before .before .before .before .before .before .before .before .before .before .before .before .before .before .before .before .before .before .before .before .before .before .before .before .before .before .before .before .turn .kept .1 .1 .1 .0) _ _ (c .before .before .before .before .before .before .before .before .before .before .before .before .before .before .before .before .before .before .before .search .ensures .0) (c .before .before .before .before .before .before .search2 .ensures .0), (c .before .before .before .before .before .before .search2 .ensures .1 .0 ∙ c .before .before .before .before .before .before .before .before .before .before .before .before .before .before .before .before .before .before .before .search .ensures .1 .0, c .before .before .before .before .before .before .search2 .ensures .1 .1 ∙ c .before .before .before .before .before .before .before .before .before .before .before .before .before .before .before .before .before .before .before .search .ensures .1 .1))
+returns c =
+    let start = c .before .before .before .before .before .before .before .before .before .before .before .before .before .before .before .before .before .before .before .before .before .before .before .before .before .before .before .before .before .before .before .before .before .before .before .before .before .before .before .before .before .before .before .before in
+    let the-turn = c .before .before .before .before .before .before .before .before .before .before .before .before .before .before .before .before .before .before .before .before .before .before .before .before .before .before .before .before .before .turn in
+    let the-search = c .before .before .before .before .before .before .before .before .before .before .before .before .before .before .before .before .before .before .before .search in
+    let the-search2 = c .before .before .before .before .before .before .search2 in
+    (rows-found _ _ _ _ _ _ _ _ _ _ _ _ _ (start .pre) _ _ _ (the-turn .ensures) (the-turn .kept .1 .1 .1 .0) _ _ (the-search .ensures .0) (the-search2 .ensures .0), (the-search2 .ensures .1 .0 ∙ the-search .ensures .1 .0, the-search2 .ensures .1 .1 ∙ the-search .ensures .1 .1))
 
 pub find-rows-spec : {M : Type 1} → statement M
 find-rows-spec =

@@ -33,7 +33,11 @@ node-count-requires c κs = search needs
 
 -- src/calls.rt:212:9
 check-pair-lengths-requires : tie.Need-check-pair-lengths-requires
-check-pair-lengths-requires c κs = omega (arith, c .before .before .before .before .before .before .before .before .before .before .node-count .ensures, pair-few _ _ _ _ _ _ _ _ _ _ (c .before .before .before .before .before .before .before .before .before .before .before .before .before .check-pair-input .ensures) (c .before .before .before .before .before .before .before .before .before .before .before .enum-told .given .1))
+check-pair-lengths-requires c κs =
+    let the-check-pair-input = c .before .before .before .before .before .before .before .before .before .before .before .before .before .check-pair-input in
+    let the-enum-told = c .before .before .before .before .before .before .before .before .before .before .before .enum-told in
+    let the-node-count = c .before .before .before .before .before .before .before .before .before .before .node-count in
+    omega (arith, the-node-count .ensures, pair-few _ _ _ _ _ _ _ _ _ _ (the-check-pair-input .ensures) (the-enum-told .given .1))
 
 -- src/calls.rt:226:29
 enum-known-lengths : tie.Need-enum-known-lengths
@@ -81,7 +85,11 @@ same-length-10 c = search needs
 
 -- src/calls.rt:227:9
 returns-2 : tie.Need-returns-2
-returns-2 c = pair-refused-late _ _ _ _ _ _ _ _ _ _ _ (c .before .before .before .before .before .before .before .before .before .before .before .before .before .before .before .before .before .check-pair-input .ensures) (c .before .before .before .before .before .before .before .before .before .before .before .before .before .before .before .enum-told .given .1) _ (rw (c .before .before .before .before .before .before .before .before .before .before .before .before .before .before .node-count .ensures) at (c .before .before .before .check-pair-lengths .ensures)) _ (c .before .lengths .given .1)
+returns-2 c =
+    let the-check-pair-input = c .before .before .before .before .before .before .before .before .before .before .before .before .before .before .before .before .before .check-pair-input in
+    let the-enum-told = c .before .before .before .before .before .before .before .before .before .before .before .before .before .before .before .enum-told in
+    let the-node-count = c .before .before .before .before .before .before .before .before .before .before .before .before .before .before .node-count in
+    pair-refused-late _ _ _ _ _ _ _ _ _ _ _ (the-check-pair-input .ensures) (the-enum-told .given .1) _ (rw (the-node-count .ensures) at (c .before .before .before .check-pair-lengths .ensures)) _ (c .before .lengths .given .1)
 
 enum-told-2 : tie.Need-enum-told-2
 enum-told-2 c = search needs
@@ -96,7 +104,15 @@ wide-requires-2 c κs = search needs
 
 -- src/calls.rt:229:9
 ask-pair-requires : tie.Need-ask-pair-requires
-ask-pair-requires c κs = pair-ready _ _ _ _ _ _ _ _ _ _ _ (c .before .before .before .before .before .before .before .before .before .before .before .before .before .before .before .before .before .before .before .before .before .before .before .before .before .before .before .before .check-pair-input .ensures) (c .before .before .before .before .before .before .before .before .before .before .before .before .before .before .before .before .before .before .before .before .before .before .before .before .before .before .enum-told .given .1) _ (rw (c .before .before .before .before .before .before .before .before .before .before .before .before .before .before .before .before .before .before .before .before .before .before .before .before .before .node-count .ensures) at (c .before .before .before .before .before .before .before .before .before .before .before .before .before .before .check-pair-lengths .ensures)) (c .before .before .before .before .before .before .before .before .before .before .before .before .enum-told2 .given .1) _ _ (c .before .before .before .before .before .before .before .before .before .before .before .wide .ensures) (c .before .before .before .before .before .before .before .before .before .before .wide2 .ensures)
+ask-pair-requires c κs =
+    let the-check-pair-input = c .before .before .before .before .before .before .before .before .before .before .before .before .before .before .before .before .before .before .before .before .before .before .before .before .before .before .before .before .check-pair-input in
+    let the-enum-told = c .before .before .before .before .before .before .before .before .before .before .before .before .before .before .before .before .before .before .before .before .before .before .before .before .before .before .enum-told in
+    let the-node-count = c .before .before .before .before .before .before .before .before .before .before .before .before .before .before .before .before .before .before .before .before .before .before .before .before .before .node-count in
+    let the-check-pair-lengths = c .before .before .before .before .before .before .before .before .before .before .before .before .before .before .check-pair-lengths in
+    let the-enum-told2 = c .before .before .before .before .before .before .before .before .before .before .before .before .enum-told2 in
+    let the-wide = c .before .before .before .before .before .before .before .before .before .before .before .wide in
+    let the-wide2 = c .before .before .before .before .before .before .before .before .before .before .wide2 in
+    pair-ready _ _ _ _ _ _ _ _ _ _ _ (the-check-pair-input .ensures) (the-enum-told .given .1) _ (rw (the-node-count .ensures) at (the-check-pair-lengths .ensures)) (the-enum-told2 .given .1) _ _ (the-wide .ensures) (the-wide2 .ensures)
 
 -- src/calls.rt:250:5
 answer-requires : tie.Need-answer-requires
@@ -144,7 +160,16 @@ same-length-20 c = search needs
 
 -- src/calls.rt:175:1
 returns-3 : tie.Need-returns-3
-returns-3 c = pair-answered _ _ _ _ _ _ _ _ _ _ _ (c .before .before .before .before .before .before .before .before .before .before .before .before .before .before .before .before .before .before .before .before .before .before .before .before .before .before .before .before .before .before .before .before .before .before .before .before .before .before .before .before .before .before .before .before .before .before .before .before .before .before .check-pair-input .ensures) (c .before .before .before .before .before .before .before .before .before .before .before .before .before .before .before .before .before .before .before .before .before .before .before .before .before .before .before .before .before .before .before .before .before .before .before .before .before .before .before .before .before .before .before .before .before .before .before .before .enum-told .given .1) _ (rw (c .before .before .before .before .before .before .before .before .before .before .before .before .before .before .before .before .before .before .before .before .before .before .before .before .before .before .before .before .before .before .before .before .before .before .before .before .before .before .before .before .before .before .before .before .before .before .before .node-count .ensures) at (c .before .before .before .before .before .before .before .before .before .before .before .before .before .before .before .before .before .before .before .before .before .before .before .before .before .before .before .before .before .before .before .before .before .before .before .before .check-pair-lengths .ensures)) (c .before .before .before .before .before .before .before .before .before .before .before .before .before .before .before .before .before .before .before .before .before .before .before .before .before .before .before .before .before .before .before .before .before .before .enum-told2 .given .1) _ _ _ (c .before .before .before .before .before .before .before .before .before .before .before .before .before .before .before .before .before .before .before .before .before .before .before .before .before .before .before .before .before .before .before .before .before .wide .ensures) (c .before .before .before .before .before .before .before .before .before .before .before .before .before .before .before .before .before .before .before .before .before .before .before .before .before .before .before .before .before .before .before .before .wide2 .ensures) (c .before .before .before .before .before .before .before .before .before .before .before .before .before .before .before .before .before .before .before .before .before .ask-pair .ensures .0) _ (c .before .before .before .before .before .before .before .before .before .before .before .before .before .before .before .before .before .before .before .before .before .ask-pair .ensures .1) _ (c .answer .ensures)
+returns-3 c =
+    let the-check-pair-input = c .before .before .before .before .before .before .before .before .before .before .before .before .before .before .before .before .before .before .before .before .before .before .before .before .before .before .before .before .before .before .before .before .before .before .before .before .before .before .before .before .before .before .before .before .before .before .before .before .before .before .check-pair-input in
+    let the-enum-told = c .before .before .before .before .before .before .before .before .before .before .before .before .before .before .before .before .before .before .before .before .before .before .before .before .before .before .before .before .before .before .before .before .before .before .before .before .before .before .before .before .before .before .before .before .before .before .before .before .enum-told in
+    let the-node-count = c .before .before .before .before .before .before .before .before .before .before .before .before .before .before .before .before .before .before .before .before .before .before .before .before .before .before .before .before .before .before .before .before .before .before .before .before .before .before .before .before .before .before .before .before .before .before .before .node-count in
+    let the-check-pair-lengths = c .before .before .before .before .before .before .before .before .before .before .before .before .before .before .before .before .before .before .before .before .before .before .before .before .before .before .before .before .before .before .before .before .before .before .before .before .check-pair-lengths in
+    let the-enum-told2 = c .before .before .before .before .before .before .before .before .before .before .before .before .before .before .before .before .before .before .before .before .before .before .before .before .before .before .before .before .before .before .before .before .before .before .enum-told2 in
+    let the-wide = c .before .before .before .before .before .before .before .before .before .before .before .before .before .before .before .before .before .before .before .before .before .before .before .before .before .before .before .before .before .before .before .before .before .wide in
+    let the-wide2 = c .before .before .before .before .before .before .before .before .before .before .before .before .before .before .before .before .before .before .before .before .before .before .before .before .before .before .before .before .before .before .before .before .wide2 in
+    let the-ask-pair = c .before .before .before .before .before .before .before .before .before .before .before .before .before .before .before .before .before .before .before .before .before .ask-pair in
+    pair-answered _ _ _ _ _ _ _ _ _ _ _ (the-check-pair-input .ensures) (the-enum-told .given .1) _ (rw (the-node-count .ensures) at (the-check-pair-lengths .ensures)) (the-enum-told2 .given .1) _ _ _ (the-wide .ensures) (the-wide2 .ensures) (the-ask-pair .ensures .0) _ (the-ask-pair .ensures .1) _ (c .answer .ensures)
 
 pub any-pair-spec : {M : Type 1} → statement M
 any-pair-spec =

@@ -27,7 +27,10 @@ enum-told c = search needs
 
 -- src/calls.rt:113:9
 check-hand-lengths-requires : tie.Need-check-hand-lengths-requires
-check-hand-lengths-requires c κs = hand-few _ _ _ _ _ _ _ (c .before .before .before .before .before .before .before .check-hand-input .ensures) (c .before .before .before .before .before .enum-told .given .1)
+check-hand-lengths-requires c κs =
+    let the-check-hand-input = c .before .before .before .before .before .before .before .check-hand-input in
+    let the-enum-told = c .before .before .before .before .before .enum-told in
+    hand-few _ _ _ _ _ _ _ (the-check-hand-input .ensures) (the-enum-told .given .1)
 
 -- src/calls.rt:121:29
 enum-known-lengths : tie.Need-enum-known-lengths
@@ -55,7 +58,10 @@ same-length-5 c = search needs
 
 -- src/calls.rt:122:9
 returns-2 : tie.Need-returns-2
-returns-2 c = hand-refused-late _ _ _ _ _ _ _ _ (c .before .before .before .before .before .before .before .before .before .before .before .check-hand-input .ensures) (c .before .before .before .before .before .before .before .before .before .enum-told .given .1) _ (c .before .before .before .check-hand-lengths .ensures) _ (c .before .lengths .given .1)
+returns-2 c =
+    let the-check-hand-input = c .before .before .before .before .before .before .before .before .before .before .before .check-hand-input in
+    let the-enum-told = c .before .before .before .before .before .before .before .before .before .enum-told in
+    hand-refused-late _ _ _ _ _ _ _ _ (the-check-hand-input .ensures) (the-enum-told .given .1) _ (c .before .before .before .check-hand-lengths .ensures) _ (c .before .lengths .given .1)
 
 enum-told-2 : tie.Need-enum-told-2
 enum-told-2 c = search needs
@@ -70,7 +76,14 @@ wide-requires-2 c κs = search needs
 
 -- src/calls.rt:124:9
 ask-overlay-requires : tie.Need-ask-overlay-requires
-ask-overlay-requires c κs = hand-ready _ _ _ _ _ _ _ _ (c .before .before .before .before .before .before .before .before .before .before .before .before .before .before .before .before .before .check-hand-input .ensures) (c .before .before .before .before .before .before .before .before .before .before .before .before .before .before .before .enum-told .given .1) _ (c .before .before .before .before .before .before .before .before .before .check-hand-lengths .ensures) (c .before .before .before .before .before .before .before .enum-told2 .given .1) _ _ (c .before .before .before .before .before .before .wide .ensures) (c .before .before .before .before .before .wide2 .ensures)
+ask-overlay-requires c κs =
+    let the-check-hand-input = c .before .before .before .before .before .before .before .before .before .before .before .before .before .before .before .before .before .check-hand-input in
+    let the-enum-told = c .before .before .before .before .before .before .before .before .before .before .before .before .before .before .before .enum-told in
+    let the-check-hand-lengths = c .before .before .before .before .before .before .before .before .before .check-hand-lengths in
+    let the-enum-told2 = c .before .before .before .before .before .before .before .enum-told2 in
+    let the-wide = c .before .before .before .before .before .before .wide in
+    let the-wide2 = c .before .before .before .before .before .wide2 in
+    hand-ready _ _ _ _ _ _ _ _ (the-check-hand-input .ensures) (the-enum-told .given .1) _ (the-check-hand-lengths .ensures) (the-enum-told2 .given .1) _ _ (the-wide .ensures) (the-wide2 .ensures)
 
 -- src/calls.rt:136:5
 answer-requires : tie.Need-answer-requires
@@ -98,7 +111,15 @@ same-length-10 c = search needs
 
 -- src/calls.rt:94:1
 returns-3 : tie.Need-returns-3
-returns-3 c = hand-answered _ _ _ _ _ _ _ _ (c .before .before .before .before .before .before .before .before .before .before .before .before .before .before .before .before .before .before .before .before .before .before .before .before .before .before .before .before .before .check-hand-input .ensures) (c .before .before .before .before .before .before .before .before .before .before .before .before .before .before .before .before .before .before .before .before .before .before .before .before .before .before .before .enum-told .given .1) _ (c .before .before .before .before .before .before .before .before .before .before .before .before .before .before .before .before .before .before .before .before .before .check-hand-lengths .ensures) (c .before .before .before .before .before .before .before .before .before .before .before .before .before .before .before .before .before .before .before .enum-told2 .given .1) _ _ _ (c .before .before .before .before .before .before .before .before .before .before .before .before .before .before .before .before .before .before .wide .ensures) (c .before .before .before .before .before .before .before .before .before .before .before .before .before .before .before .before .before .wide2 .ensures) (c .before .before .before .before .before .before .before .before .before .before .before .ask-overlay .ensures .0) _ (c .before .before .before .before .before .before .before .before .before .before .before .ask-overlay .ensures .1) _ (c .answer .ensures)
+returns-3 c =
+    let the-check-hand-input = c .before .before .before .before .before .before .before .before .before .before .before .before .before .before .before .before .before .before .before .before .before .before .before .before .before .before .before .before .before .check-hand-input in
+    let the-enum-told = c .before .before .before .before .before .before .before .before .before .before .before .before .before .before .before .before .before .before .before .before .before .before .before .before .before .before .before .enum-told in
+    let the-check-hand-lengths = c .before .before .before .before .before .before .before .before .before .before .before .before .before .before .before .before .before .before .before .before .before .check-hand-lengths in
+    let the-enum-told2 = c .before .before .before .before .before .before .before .before .before .before .before .before .before .before .before .before .before .before .before .enum-told2 in
+    let the-wide = c .before .before .before .before .before .before .before .before .before .before .before .before .before .before .before .before .before .before .wide in
+    let the-wide2 = c .before .before .before .before .before .before .before .before .before .before .before .before .before .before .before .before .before .wide2 in
+    let the-ask-overlay = c .before .before .before .before .before .before .before .before .before .before .before .ask-overlay in
+    hand-answered _ _ _ _ _ _ _ _ (the-check-hand-input .ensures) (the-enum-told .given .1) _ (the-check-hand-lengths .ensures) (the-enum-told2 .given .1) _ _ _ (the-wide .ensures) (the-wide2 .ensures) (the-ask-overlay .ensures .0) _ (the-ask-overlay .ensures .1) _ (c .answer .ensures)
 
 pub handheld-spec : {M : Type 1} → statement M
 handheld-spec =

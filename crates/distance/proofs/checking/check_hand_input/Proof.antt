@@ -40,7 +40,9 @@ enum-told-4 c = search needs
 
 -- src/checking.rt:30:9
 returns-2 : tie.Need-returns-2
-returns-2 c = goes-on (loneSetFaults _) _ (c .before .before .before .enum-told .given .1) (c .before .before .before .before .before .check-lone-set .ensures) (stops (_ ∷ []) _ (c .enum-told4 .given .1) (judged-alone (c .before .before .check-overlay .ensures)))
+returns-2 c =
+    let the-check-lone-set = c .before .before .before .before .before .check-lone-set in
+    goes-on (loneSetFaults _) _ (c .before .before .before .enum-told .given .1) (the-check-lone-set .ensures) (stops (_ ∷ []) _ (c .enum-told4 .given .1) (judged-alone (c .before .before .check-overlay .ensures)))
 
 -- src/checking.rt:32:9
 check-nodes-requires : tie.Need-check-nodes-requires
@@ -55,7 +57,11 @@ enum-told-6 c = search needs
 
 -- src/checking.rt:34:9
 returns-3 : tie.Need-returns-3
-returns-3 c = goes-on (loneSetFaults _) _ (c .before .before .before .before .before .before .enum-told .given .1) (c .before .before .before .before .before .before .before .before .check-lone-set .ensures) (goes-on (_ ∷ []) _ (c .before .before .before .enum-told3 .given .1) (judged-alone (c .before .before .before .before .before .check-overlay .ensures)) (stops (_ ∷ []) _ (c .enum-told6 .given .1) (judged-alone (c .before .before .check-nodes .ensures))))
+returns-3 c =
+    let the-check-lone-set = c .before .before .before .before .before .before .before .before .check-lone-set in
+    let the-enum-told = c .before .before .before .before .before .before .enum-told in
+    let the-check-overlay = c .before .before .before .before .before .check-overlay in
+    goes-on (loneSetFaults _) _ (the-enum-told .given .1) (the-check-lone-set .ensures) (goes-on (_ ∷ []) _ (c .before .before .before .enum-told3 .given .1) (judged-alone (the-check-overlay .ensures)) (stops (_ ∷ []) _ (c .enum-told6 .given .1) (judged-alone (c .before .before .check-nodes .ensures))))
 
 -- src/checking.rt:36:5
 check-in-set-requires : tie.Need-check-in-set-requires
@@ -63,7 +69,12 @@ check-in-set-requires c κs = (passed-from _ _ _ _ (c .before .before .check-nod
 
 -- src/checking.rt:14:1
 returns-4 : tie.Need-returns-4
-returns-4 c = goes-on (loneSetFaults _) _ (c .before .before .before .before .before .before .before .enum-told .given .1) (c .before .before .before .before .before .before .before .before .before .check-lone-set .ensures) (goes-on (_ ∷ []) _ (c .before .before .before .before .enum-told3 .given .1) (judged-alone (c .before .before .before .before .before .before .check-overlay .ensures)) (goes-on (_ ∷ []) _ (c .before .enum-told5 .given .1) (judged-alone (c .before .before .before .check-nodes .ensures)) (judged-alone (c .check-in-set .ensures))))
+returns-4 c =
+    let the-check-lone-set = c .before .before .before .before .before .before .before .before .before .check-lone-set in
+    let the-enum-told = c .before .before .before .before .before .before .before .enum-told in
+    let the-check-overlay = c .before .before .before .before .before .before .check-overlay in
+    let the-enum-told3 = c .before .before .before .before .enum-told3 in
+    goes-on (loneSetFaults _) _ (the-enum-told .given .1) (the-check-lone-set .ensures) (goes-on (_ ∷ []) _ (the-enum-told3 .given .1) (judged-alone (the-check-overlay .ensures)) (goes-on (_ ∷ []) _ (c .before .enum-told5 .given .1) (judged-alone (c .before .before .before .check-nodes .ensures)) (judged-alone (c .check-in-set .ensures))))
 
 pub check-hand-input-spec : {M : Type 1} → statement M
 check-hand-input-spec =

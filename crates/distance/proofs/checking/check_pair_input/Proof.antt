@@ -39,7 +39,9 @@ enum-told-4 c = search needs
 
 -- src/checking.rt:59:9
 returns-2 : tie.Need-returns-2
-returns-2 c = goes-on (roadAndSetFaults _ _ _ _) _ (c .before .before .before .enum-told .given .1) (c .before .before .before .before .before .check-road-and-set .ensures) (stops (_ ∷ []) _ (c .enum-told4 .given .1) (judged-alone (c .before .before .check-overlay .ensures)))
+returns-2 c =
+    let the-check-road-and-set = c .before .before .before .before .before .check-road-and-set in
+    goes-on (roadAndSetFaults _ _ _ _) _ (c .before .before .before .enum-told .given .1) (the-check-road-and-set .ensures) (stops (_ ∷ []) _ (c .enum-told4 .given .1) (judged-alone (c .before .before .check-overlay .ensures)))
 
 -- src/checking.rt:61:17
 node-count-requires : tie.Need-node-count-requires
@@ -51,7 +53,11 @@ check-nodes-requires c κs = search needs
 
 -- src/checking.rt:40:1
 returns-3 : tie.Need-returns-3
-returns-3 c = goes-on (roadAndSetFaults _ _ _ _) _ (c .before .before .before .before .before .enum-told .given .1) (c .before .before .before .before .before .before .before .check-road-and-set .ensures) (goes-on (_ ∷ []) _ (c .before .before .enum-told3 .given .1) (judged-alone (c .before .before .before .before .check-overlay .ensures)) (judged-alone (rw (c .before .node-count .ensures) at (c .check-nodes .ensures))))
+returns-3 c =
+    let the-check-road-and-set = c .before .before .before .before .before .before .before .check-road-and-set in
+    let the-enum-told = c .before .before .before .before .before .enum-told in
+    let the-check-overlay = c .before .before .before .before .check-overlay in
+    goes-on (roadAndSetFaults _ _ _ _) _ (the-enum-told .given .1) (the-check-road-and-set .ensures) (goes-on (_ ∷ []) _ (c .before .before .enum-told3 .given .1) (judged-alone (the-check-overlay .ensures)) (judged-alone (rw (c .before .node-count .ensures) at (c .check-nodes .ensures))))
 
 pub check-pair-input-spec : {M : Type 1} → statement M
 check-pair-input-spec =

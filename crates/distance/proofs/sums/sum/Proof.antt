@@ -47,15 +47,26 @@ returns-3 c = sum-missing _ _ _ (inr (inr (ap labelOf (c .enum-told3 .given .1))
 
 -- src/sums.rt:51:19
 add-t7 : tie.Need-add-t7
-add-t7 c = omega (arith, c .before .before .before .before .before .before .before .before .before .pre .0, c .before .before .before .before .before .before .before .before .before .pre .1 .0, c .before .before .before .before .before .before .before .before .before .pre .1 .1, (ap labelOf (c .before .before .before .before .before .before .before .x .given .1)), (ap labelOf (c .before .before .before .before .y .given .1)), (ap labelOf (c .before .z .given .1)))
+add-t7 c =
+    let start = c .before .before .before .before .before .before .before .before .before in
+    let the-x = c .before .before .before .before .before .before .before .x in
+    let the-y = c .before .before .before .before .y in
+    omega (arith, start .pre .0, start .pre .1 .0, start .pre .1 .1, (ap labelOf (the-x .given .1)), (ap labelOf (the-y .given .1)), (ap labelOf (c .before .z .given .1)))
 
 -- src/sums.rt:51:19
 add-t8 : tie.Need-add-t8
-add-t8 c = omega (arith, c .before .before .before .before .before .before .before .before .before .pre .0, c .before .before .before .before .before .before .before .before .before .pre .1 .0, c .before .before .before .before .before .before .before .before .before .pre .1 .1, (ap labelOf (c .before .before .before .before .before .before .before .x .given .1)), (ap labelOf (c .before .before .before .before .y .given .1)), (ap labelOf (c .before .z .given .1)))
+add-t8 c =
+    let start = c .before .before .before .before .before .before .before .before .before in
+    let the-x = c .before .before .before .before .before .before .before .x in
+    let the-y = c .before .before .before .before .y in
+    omega (arith, start .pre .0, start .pre .1 .0, start .pre .1 .1, (ap labelOf (the-x .given .1)), (ap labelOf (the-y .given .1)), (ap labelOf (c .before .z .given .1)))
 
 -- src/sums.rt:36:1
 returns-4 : tie.Need-returns-4
-returns-4 c = sum-all _ _ _ _ _ _ (ap labelOf (c .before .before .before .before .before .before .before .x .given .1)) (ap labelOf (c .before .before .before .before .y .given .1)) (ap labelOf (c .before .z .given .1)) _ (omega arith)
+returns-4 c =
+    let the-x = c .before .before .before .before .before .before .before .x in
+    let the-y = c .before .before .before .before .y in
+    sum-all _ _ _ _ _ _ (ap labelOf (the-x .given .1)) (ap labelOf (the-y .given .1)) (ap labelOf (c .before .z .given .1)) _ (omega arith)
 
 pub sum-spec : {M : Type 1} → statement M
 sum-spec =

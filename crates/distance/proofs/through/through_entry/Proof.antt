@@ -14,7 +14,9 @@ use Rattle.search.proofs.search.Reads as search-reads
 
 -- src/through.rt:87:9
 gate-requires : tie.Need-gate-requires
-gate-requires c κs = (omega (arith, c .before .before .before .before .before .before .before .before .before .before .pre .1 .0 .from, c .before .before .before .before .before .before .before .before .before .before .pre .1 .0 .bytes), (omega (arith, c .before .before .before .before .before .before .before .before .before .before .pre .1 .1, c .before .before .before .before .before .before .before .before .before .before .pre .1 .0 .bytes), omega (arith, c .before .before .before .before .before .before .before .before .before .before .pre .1 .0 .outward-long, c .before .before .before .before .before .before .before .before .before .before .pre .1 .0 .bytes)))
+gate-requires c κs =
+    let start = c .before .before .before .before .before .before .before .before .before .before in
+    (omega (arith, start .pre .1 .0 .from, start .pre .1 .0 .bytes), (omega (arith, start .pre .1 .1, start .pre .1 .0 .bytes), omega (arith, start .pre .1 .0 .outward-long, start .pre .1 .0 .bytes)))
 
 enum-told : tie.Need-enum-told
 enum-told c = search needs
@@ -29,11 +31,18 @@ returns c = (through-none _ _ _ _ _ _ _ _ (c .before .before .gate .ensures) (ap
 
 -- src/through.rt:91:5
 search-requires : tie.Need-search-requires
-search-requires c κs = asks-of _ _ _ _ _ _ _ (c .before .before .before .before .before .before .before .before .before .before .before .before .before .before .before .before .pre .0) _ (c .before .before .before .before .before .before .before .before .before .before .before .before .before .before .before .before .pre .1 .1)
+search-requires c κs =
+    let start = c .before .before .before .before .before .before .before .before .before .before .before .before .before .before .before .before in
+    asks-of _ _ _ _ _ _ _ (start .pre .0) _ (start .pre .1 .1)
 
 -- src/through.rt:92:5
 through-exits-requires : tie.Need-through-exits-requires
-through-exits-requires c κs = (omega (arith, c .before .before .before .before .before .before .before .before .before .before .before .before .before .before .before .before .before .before .before .before .before .before .before .before .pre .1 .0 .to, c .before .before .before .before .before .before .before .before .before .before .before .before .before .before .before .before .before .before .before .before .before .before .before .before .pre .1 .0 .bytes), (omega (arith, c .before .before .before .before .before .before .before .search .kept .1 .1 .1 .1 .1 .0, c .before .before .before .before .before .before .before .before .before .before .before .before .before .before .before .before .before .before .before .before .before .before .before .before .pre .0 .room, c .before .before .before .before .before .before .before .before .before .before .before .before .before .before .before .before .before .before .before .before .before .before .before .before .pre .1 .0 .bytes), (omega (arith, c .before .before .before .before .before .before .before .before .before .before .before .before .before .before .before .before .before .before .before .before .before .before .before .before .pre .1 .0 .inward-long, c .before .before .before .before .before .before .before .before .before .before .before .before .before .before .before .before .before .before .before .before .before .before .before .before .pre .1 .0 .bytes), (row-small _ _ _ _ _ _ (c .before .before .before .before .before .before .before .before .before .before .before .before .before .before .before .before .before .before .before .before .before .before .before .before .pre .0 .sound) (c .before .before .before .before .before .before .before .search .ensures .0), (c .before .before .before .before .before .before .before .before .before .before .before .before .before .before .before .before .before .before .before .before .before .before .before .before .pre .1 .0 .inward-small, omega (arith, gate-modest _ _ _ _ _ (c .before .before .before .before .before .before .before .before .before .before .before .before .before .gate .ensures) (c .before .before .before .before .before .before .before .before .before .before .before .before .before .before .before .before .before .before .before .before .before .before .before .before .pre .1 .0 .outward-small), ap labelOf (c .before .before .before .before .before .before .before .before .before .before .before .enum-told .given .1)))))))
+through-exits-requires c κs =
+    let start = c .before .before .before .before .before .before .before .before .before .before .before .before .before .before .before .before .before .before .before .before .before .before .before .before in
+    let the-gate = c .before .before .before .before .before .before .before .before .before .before .before .before .before .gate in
+    let the-enum-told = c .before .before .before .before .before .before .before .before .before .before .before .enum-told in
+    let the-search = c .before .before .before .before .before .before .before .search in
+    (omega (arith, start .pre .1 .0 .to, start .pre .1 .0 .bytes), (omega (arith, the-search .kept .1 .1 .1 .1 .1 .0, start .pre .0 .room, start .pre .1 .0 .bytes), (omega (arith, start .pre .1 .0 .inward-long, start .pre .1 .0 .bytes), (row-small _ _ _ _ _ _ (start .pre .0 .sound) (the-search .ensures .0), (start .pre .1 .0 .inward-small, omega (arith, gate-modest _ _ _ _ _ (the-gate .ensures) (start .pre .1 .0 .outward-small), ap labelOf (the-enum-told .given .1)))))))
 
 -- src/through.rt:66:1
 same-length : tie.Need-same-length
@@ -49,7 +58,11 @@ same-length-3 c = search needs
 
 -- src/through.rt:66:1
 returns-2 : tie.Need-returns-2
-returns-2 c = (through-exits _ _ _ _ _ _ _ _ _ (c .before .before .before .before .before .before .before .before .before .before .before .before .before .before .gate .ensures) (λ x h. row-any _ _ _ _ _ _ _ (c .before .before .before .before .before .before .before .before .before .before .before .before .before .before .before .before .before .before .before .before .before .before .before .before .before .pre .0) _ _ (c .before .before .before .before .before .before .before .before .search .ensures .0) x (omega (arith, h, c .before .before .before .before .before .before .before .before .before .before .before .before .before .before .before .before .before .before .before .before .before .before .before .before .before .pre .1 .0 .bytes))) _ (c .through-exits .ensures), (c .before .before .before .before .before .before .before .before .search .ensures .1 .0, c .before .before .before .before .before .before .before .before .search .ensures .1 .1))
+returns-2 c =
+    let start = c .before .before .before .before .before .before .before .before .before .before .before .before .before .before .before .before .before .before .before .before .before .before .before .before .before in
+    let the-gate = c .before .before .before .before .before .before .before .before .before .before .before .before .before .before .gate in
+    let the-search = c .before .before .before .before .before .before .before .before .search in
+    (through-exits _ _ _ _ _ _ _ _ _ (the-gate .ensures) (λ x h. row-any _ _ _ _ _ _ _ (start .pre .0) _ _ (the-search .ensures .0) x (omega (arith, h, start .pre .1 .0 .bytes))) _ (c .through-exits .ensures), (the-search .ensures .1 .0, the-search .ensures .1 .1))
 
 pub through-entry-spec : {M : Type 1} → statement M
 through-entry-spec =

@@ -27,7 +27,9 @@ gate-requires c κs = search needs
 
 -- src/through.rt:36:5
 sum-requires : tie.Need-sum-requires
-sum-requires c κs = (c .before .before .before .before .before .before .pre .1 .1 .1 .1 .1 .1, (omega (arith, c .before .shown .ensures, c .before .before .before .before .before .before .pre .1 .1 .1 .1 .0 .small (c .before .before .before .before .before .before .args .b)), gate-modest _ _ _ _ _ (c .gate .ensures) (c .before .before .before .before .before .before .pre .1 .1 .1 .1 .1 .0)))
+sum-requires c κs =
+    let start = c .before .before .before .before .before .before in
+    (start .pre .1 .1 .1 .1 .1 .1, (omega (arith, c .before .shown .ensures, start .pre .1 .1 .1 .1 .0 .small (start .args .b)), gate-modest _ _ _ _ _ (c .gate .ensures) (start .pre .1 .1 .1 .1 .1 .0)))
 
 -- src/through.rt:17:1
 returns : tie.Need-returns

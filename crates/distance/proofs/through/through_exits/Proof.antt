@@ -24,7 +24,9 @@ loop-holds c = (exits-none _ _ _ _ _, omega arith)
 
 -- src/through.rt:58:13
 through-exit-requires : tie.Need-through-exit-requires Inv-loop μ-loop
-through-exit-requires c κs = (c .before .before .before .before .before .pre .0, (c .loop-test .taken, (c .before .before .before .before .before .pre .1 .0, (c .before .before .before .before .before .pre .1 .1 .0, (c .before .before .before .before .before .pre .1 .1 .1 .0, (c .before .before .before .before .before .pre .1 .1 .1 .1 .0, c .before .before .before .before .before .pre .1 .1 .1 .1 .1))))))
+through-exit-requires c κs =
+    let start = c .before .before .before .before .before in
+    (start .pre .0, (c .loop-test .taken, (start .pre .1 .0, (start .pre .1 .1 .0, (start .pre .1 .1 .1 .0, (start .pre .1 .1 .1 .1 .0, start .pre .1 .1 .1 .1 .1))))))
 
 -- src/through.rt:59:9
 lesser-requires : tie.Need-lesser-requires Inv-loop μ-loop

@@ -27,7 +27,10 @@ loop-holds c = (entries-none _ _ _ _ _ _, omega arith, refl, refl, refl)
 
 -- src/through.rt:118:13
 through-entry-requires : tie.Need-through-entry-requires Inv-loop μ-loop
-through-entry-requires c κs = (searchable-again _ _ _ _ _ _ _ (c .before .before .before .before .before .before .before .before .before .before .before .before .before .before .before .pre .0) _ _ _ (c .before .before .before .before .loop .inv .2) (c .before .before .before .before .loop .inv .3) (c .before .before .before .before .loop .inv .4), (c .before .before .before .before .before .before .before .before .before .before .before .before .before .before .before .pre .1, omega (arith, c .before .before .before .loop-test .taken, c .before .before .before .before .before .before .before .before .before .before .before .before .before .before .before .pre .1 .bytes)))
+through-entry-requires c κs =
+    let start = c .before .before .before .before .before .before .before .before .before .before .before .before .before .before .before in
+    let the-loop = c .before .before .before .before .loop in
+    (searchable-again _ _ _ _ _ _ _ (start .pre .0) _ _ _ (the-loop .inv .2) (the-loop .inv .3) (the-loop .inv .4), (start .pre .1, omega (arith, c .before .before .before .loop-test .taken, start .pre .1 .bytes)))
 
 -- src/through.rt:133:9
 lesser-requires : tie.Need-lesser-requires Inv-loop μ-loop
@@ -43,7 +46,11 @@ loop-less c = search needs
 
 -- src/through.rt:117:5
 loop-again : tie.Need-loop-again Inv-loop μ-loop
-loop-again c = (entries-more _ _ _ _ _ _ _ _ _ _ (c .before .before .before .before .before .before .before .before .before .before .before .before .loop .inv .0) (c .before .before .before .before .before .before .before .through-entry .ensures .0) (c .lesser .ensures), omega (arith, c .before .before .before .before .before .before .before .before .before .before .before .loop-test .taken), c .before .before .before .before .before .before .before .through-entry .kept .1 .1 .1 .1 .1 .1 .1 .1 .1 .0 ∙ c .before .before .before .before .before .before .before .before .before .before .before .before .loop .inv .2, c .before .before .before .before .before .before .before .through-entry .ensures .1 .0 ∙ c .before .before .before .before .before .before .before .before .before .before .before .before .loop .inv .3, c .before .before .before .before .before .before .before .through-entry .ensures .1 .1 ∙ c .before .before .before .before .before .before .before .before .before .before .before .before .loop .inv .4)
+loop-again c =
+    let the-loop = c .before .before .before .before .before .before .before .before .before .before .before .before .loop in
+    let the-loop-test = c .before .before .before .before .before .before .before .before .before .before .before .loop-test in
+    let the-through-entry = c .before .before .before .before .before .before .before .through-entry in
+    (entries-more _ _ _ _ _ _ _ _ _ _ (the-loop .inv .0) (the-through-entry .ensures .0) (c .lesser .ensures), omega (arith, the-loop-test .taken), the-through-entry .kept .1 .1 .1 .1 .1 .1 .1 .1 .1 .0 ∙ the-loop .inv .2, the-through-entry .ensures .1 .0 ∙ the-loop .inv .3, the-through-entry .ensures .1 .1 ∙ the-loop .inv .4)
 
 -- src/through.rt:96:1
 same-length : tie.Need-same-length Inv-loop μ-loop

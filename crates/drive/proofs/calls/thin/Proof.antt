@@ -22,19 +22,30 @@ enum-known-room : tie.Need-enum-known-room
 enum-known-room c = search needs
 
 returns-2 : tie.Need-returns-2
-returns-2 c = refused-late _ _ _ _ _ _ _ (c .before .before .before .before .before .before .check-drive-input .ensures) (c .before .before .before .before .enum-told .given .1) _ (c .before .before .before .check-length .ensures) _ (c .before .room .given .1)
+returns-2 c =
+    let the-check-drive-input = c .before .before .before .before .before .before .check-drive-input in
+    let the-enum-told = c .before .before .before .before .enum-told in
+    refused-late _ _ _ _ _ _ _ (the-check-drive-input .ensures) (the-enum-told .given .1) _ (c .before .before .before .check-length .ensures) _ (c .before .room .given .1)
 
 enum-told-2 : tie.Need-enum-told-2
 enum-told-2 c = search needs
 
 pick-requires : tie.Need-pick-requires
-pick-requires c κs = fits _ _ _ _ _ _ _ (c .before .before .before .before .before .before .check-drive-input .ensures) (c .before .before .before .before .enum-told .given .1) _ (c .before .before .before .check-length .ensures) (c .before .enum-told2 .given .1)
+pick-requires c κs =
+    let the-check-drive-input = c .before .before .before .before .before .before .check-drive-input in
+    let the-enum-told = c .before .before .before .before .enum-told in
+    fits _ _ _ _ _ _ _ (the-check-drive-input .ensures) (the-enum-told .given .1) _ (c .before .before .before .check-length .ensures) (c .before .enum-told2 .given .1)
 
 same-length : tie.Need-same-length
 same-length c = search needs
 
 returns-3 : tie.Need-returns-3
-returns-3 c = thinned-so _ _ _ _ _ _ _ (c .before .before .before .before .before .before .before .before .before .check-drive-input .ensures) (c .before .before .before .before .before .before .before .enum-told .given .1) _ (c .before .before .before .before .before .before .check-length .ensures) (c .before .before .before .before .enum-told2 .given .1) _ _ (c .before .before .pick .ensures)
+returns-3 c =
+    let the-check-drive-input = c .before .before .before .before .before .before .before .before .before .check-drive-input in
+    let the-enum-told = c .before .before .before .before .before .before .before .enum-told in
+    let the-check-length = c .before .before .before .before .before .before .check-length in
+    let the-enum-told2 = c .before .before .before .before .enum-told2 in
+    thinned-so _ _ _ _ _ _ _ (the-check-drive-input .ensures) (the-enum-told .given .1) _ (the-check-length .ensures) (the-enum-told2 .given .1) _ _ (c .before .before .pick .ensures)
 
 pub thin-spec : {M : Type 1} → statement M
 thin-spec =

@@ -39,8 +39,10 @@ loop-less : tie.Need-loop-less Inv-loop μ-loop
 loop-less c = search needs
 
 loop-again : tie.Need-loop-again Inv-loop μ-loop
-loop-again c = ⊎-elim
-    (λ w. picking-same _ _ _ _ _ _ _ _ (picking-met _ _ _ _ _ _ (c .before .before .before .loop .inv) (c .before .is-kept .ensures .yes (w .0 .taken)) (picking-room _ _ _ _ _ _ (c .before .before .before .loop .inv) (c .before .before .before .before .before .before .before .pre) (c .before .before .loop-test .taken))) (w .1) (w .2))
+loop-again c =
+    let start = c .before .before .before .before .before .before .before in
+    ⊎-elim
+    (λ w. picking-same _ _ _ _ _ _ _ _ (picking-met _ _ _ _ _ _ (c .before .before .before .loop .inv) (c .before .is-kept .ensures .yes (w .0 .taken)) (picking-room _ _ _ _ _ _ (c .before .before .before .loop .inv) (start .pre) (c .before .before .loop-test .taken))) (w .1) (w .2))
     (λ w. picking-same _ _ _ _ _ _ _ _ (picking-missed _ _ _ _ _ _ (c .before .before .before .loop .inv) (c .before .before .loop-test .taken) (c .before .is-kept .ensures .no (w .0 .left))) (w .1) (w .2))
     (c .if1 .came)
 

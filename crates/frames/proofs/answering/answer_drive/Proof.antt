@@ -35,11 +35,18 @@ part-write-kept-start c = search needs
 
 -- src/answering.rt:108:44
 part-write-kept-end : tie.Need-part-write-kept-end
-part-write-kept-end c = omega (arith, kept-fits (c .before .before .before .before .before .before .before .before .before .before .before .before .before .before .before .before .args .starts .now) (c .before .before .before .before .before .before .before .before .before .before .before .before .before .before .before .before .args .heads .now) (c .before .before .before .before .before .before .before .before .before .before .before .before .before .before .before .before .args .weights .now) (c .before .before .before .before .before .before .before .before .before .before .before .before .before .before .before .before .args .set .now) (c .before .before .before .before .before .before .before .before .before .before .before .before .before .before .before .before .args .nodes .now) (c .before .before .before .before .before .before .before .before .before .before .before .before .before .before .before .before .args .positions .now) (c .before .before .before .before .before .before .before .before .before .before .before .before .before .before .before .before .pre .0 .1) (c .before .before .before .before .before .before .before .before .before .before .before .before .before .before .before .before .args .line) _ _ (c .before .before .before .before .before .before .before .thin .ensures) _ (c .before .before .before .found2 .given .1) (c .before .before .before .before .before .before .before .thin .kept .1 .1 .1 .1 .1 .0) .0)
+part-write-kept-end c =
+    let start = c .before .before .before .before .before .before .before .before .before .before .before .before .before .before .before .before in
+    let the-thin = c .before .before .before .before .before .before .before .thin in
+    omega (arith, kept-fits (start .args .starts .now) (start .args .heads .now) (start .args .weights .now) (start .args .set .now) (start .args .nodes .now) (start .args .positions .now) (start .pre .0 .1) (start .args .line) _ _ (the-thin .ensures) _ (c .before .before .before .found2 .given .1) (the-thin .kept .1 .1 .1 .1 .1 .0) .0)
 
 -- src/answering.rt:108:17
 write-kept-requires : tie.Need-write-kept-requires
-write-kept-requires c κs = kept-room (c .before .before .before .before .before .before .before .before .before .before .before .before .before .before .before .before .before .args .starts .now) (c .before .before .before .before .before .before .before .before .before .before .before .before .before .before .before .before .before .args .heads .now) (c .before .before .before .before .before .before .before .before .before .before .before .before .before .before .before .before .before .args .weights .now) (c .before .before .before .before .before .before .before .before .before .before .before .before .before .before .before .before .before .args .set .now) (c .before .before .before .before .before .before .before .before .before .before .before .before .before .before .before .before .before .args .nodes .now) (c .before .before .before .before .before .before .before .before .before .before .before .before .before .before .before .before .before .args .positions .now) (c .before .before .before .before .before .before .before .before .before .before .before .before .before .before .before .before .before .pre .0 .1) (c .before .before .before .before .before .before .before .before .before .before .before .before .before .before .before .before .before .args .line) _ _ (c .before .before .before .before .before .before .before .before .thin .ensures) _ (c .before .before .before .before .found2 .given .1) (c .before .before .before .before .before .before .before .before .thin .kept .1 .1 .1 .1 .1 .0) _ (c .before .before .before .before .before .before .before .before .before .before .before .before .before .before .before .before .before .args .out .now) (c .before .before .before .before .before .before .before .before .before .before .before .before .before .before .before .before .before .pre .0 .0) (c .before .before .before .before .before .before .before .before .before .before .before .before .before .before .before .before .before .pre .1)
+write-kept-requires c κs =
+    let start = c .before .before .before .before .before .before .before .before .before .before .before .before .before .before .before .before .before in
+    let the-thin = c .before .before .before .before .before .before .before .before .thin in
+    let the-found2 = c .before .before .before .before .found2 in
+    kept-room (start .args .starts .now) (start .args .heads .now) (start .args .weights .now) (start .args .set .now) (start .args .nodes .now) (start .args .positions .now) (start .pre .0 .1) (start .args .line) _ _ (the-thin .ensures) _ (the-found2 .given .1) (the-thin .kept .1 .1 .1 .1 .1 .0) _ (start .args .out .now) (start .pre .0 .0) (start .pre .1)
 
 -- src/answering.rt:88:1
 same-length : tie.Need-same-length
@@ -51,7 +58,11 @@ same-length-2 c = search needs
 
 -- src/answering.rt:88:1
 returns : tie.Need-returns
-returns c = drive-refused (c .before .before .before .before .before .before .before .before .before .before .before .before .before .before .before .before .before .before .args .starts .now) (c .before .before .before .before .before .before .before .before .before .before .before .before .before .before .before .before .before .before .args .heads .now) (c .before .before .before .before .before .before .before .before .before .before .before .before .before .before .before .before .before .before .args .weights .now) (c .before .before .before .before .before .before .before .before .before .before .before .before .before .before .before .before .before .before .args .set .now) (c .before .before .before .before .before .before .before .before .before .before .before .before .before .before .before .before .before .before .args .nodes .now) (c .before .before .before .before .before .before .before .before .before .before .before .before .before .before .before .before .before .before .args .positions .now) (c .before .before .before .before .before .before .before .before .before .before .before .before .before .before .before .before .before .before .pre .0 .1) (c .before .before .before .before .before .before .before .before .before .before .before .before .before .before .before .before .before .before .args .line) _ _ (c .before .before .before .before .before .before .before .before .before .thin .ensures) _ _ _ _ _ _ _ (c .before .before .before .before .before .found .given .1) (c .before .before .refuse .ensures)
+returns c =
+    let start = c .before .before .before .before .before .before .before .before .before .before .before .before .before .before .before .before .before .before in
+    let the-thin = c .before .before .before .before .before .before .before .before .before .thin in
+    let the-found = c .before .before .before .before .before .found in
+    drive-refused (start .args .starts .now) (start .args .heads .now) (start .args .weights .now) (start .args .set .now) (start .args .nodes .now) (start .args .positions .now) (start .pre .0 .1) (start .args .line) _ _ (the-thin .ensures) _ _ _ _ _ _ _ (the-found .given .1) (c .before .before .refuse .ensures)
 
 -- src/answering.rt:88:1
 same-length-3 : tie.Need-same-length-3
@@ -63,7 +74,11 @@ same-length-4 c = search needs
 
 -- src/answering.rt:88:1
 returns-2 : tie.Need-returns-2
-returns-2 c = drive-kept (c .before .before .before .before .before .before .before .before .before .before .before .before .before .before .before .before .before .before .before .before .args .starts .now) (c .before .before .before .before .before .before .before .before .before .before .before .before .before .before .before .before .before .before .before .before .args .heads .now) (c .before .before .before .before .before .before .before .before .before .before .before .before .before .before .before .before .before .before .before .before .args .weights .now) (c .before .before .before .before .before .before .before .before .before .before .before .before .before .before .before .before .before .before .before .before .args .set .now) (c .before .before .before .before .before .before .before .before .before .before .before .before .before .before .before .before .before .before .before .before .args .nodes .now) (c .before .before .before .before .before .before .before .before .before .before .before .before .before .before .before .before .before .before .before .before .args .positions .now) (c .before .before .before .before .before .before .before .before .before .before .before .before .before .before .before .before .before .before .before .before .pre .0 .1) (c .before .before .before .before .before .before .before .before .before .before .before .before .before .before .before .before .before .before .before .before .args .line) _ _ (c .before .before .before .before .before .before .before .before .before .before .before .thin .ensures) _ (c .before .before .before .before .before .before .before .found2 .given .1) (c .before .before .before .before .before .before .before .before .before .before .before .thin .kept .1 .1 .1 .1 .1 .0) _ _ _ _ (c .before .before .write-kept .ensures)
+returns-2 c =
+    let start = c .before .before .before .before .before .before .before .before .before .before .before .before .before .before .before .before .before .before .before .before in
+    let the-thin = c .before .before .before .before .before .before .before .before .before .before .before .thin in
+    let the-found2 = c .before .before .before .before .before .before .before .found2 in
+    drive-kept (start .args .starts .now) (start .args .heads .now) (start .args .weights .now) (start .args .set .now) (start .args .nodes .now) (start .args .positions .now) (start .pre .0 .1) (start .args .line) _ _ (the-thin .ensures) _ (the-found2 .given .1) (the-thin .kept .1 .1 .1 .1 .1 .0) _ _ _ _ (c .before .before .write-kept .ensures)
 
 pub answer-drive-spec : {M : Type 1} → statement M
 answer-drive-spec =

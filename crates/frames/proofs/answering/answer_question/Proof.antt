@@ -43,7 +43,10 @@ same-length c = search needs
 
 -- src/answering.rt:37:1
 returns : tie.Need-returns
-returns c = question-refused _ _ _ _ _ (c .before .before .before .before .before .before .before .find-distance .ensures) _ _ _ _ _ _ _ (c .before .before .before .before .before .found .given .1) (c .before .before .refuse .ensures)
+returns c =
+    let the-find-distance = c .before .before .before .before .before .before .before .find-distance in
+    let the-found = c .before .before .before .before .before .found in
+    question-refused _ _ _ _ _ (the-find-distance .ensures) _ _ _ _ _ _ _ (the-found .given .1) (c .before .before .refuse .ensures)
 
 -- src/answering.rt:37:1
 same-length-2 : tie.Need-same-length-2
@@ -51,7 +54,10 @@ same-length-2 c = search needs
 
 -- src/answering.rt:37:1
 returns-2 : tie.Need-returns-2
-returns-2 c = question-way _ _ _ _ _ (c .before .before .before .before .before .before .before .find-distance .ensures) _ _ _ _ _ (c .before .before .before .before .before .found2 .given .1) (c .before .before .write-way .ensures)
+returns-2 c =
+    let the-find-distance = c .before .before .before .before .before .before .before .find-distance in
+    let the-found2 = c .before .before .before .before .before .found2 in
+    question-way _ _ _ _ _ (the-find-distance .ensures) _ _ _ _ _ (the-found2 .given .1) (c .before .before .write-way .ensures)
 
 -- src/answering.rt:37:1
 same-length-3 : tie.Need-same-length-3
@@ -59,7 +65,10 @@ same-length-3 c = search needs
 
 -- src/answering.rt:37:1
 returns-3 : tie.Need-returns-3
-returns-3 c = question-none _ _ _ _ _ (c .before .before .before .before .before .before .find-distance .ensures) _ _ _ _ (c .before .before .before .before .enum-told .given .1) (c .before .before .write-no-way .ensures)
+returns-3 c =
+    let the-find-distance = c .before .before .before .before .before .before .find-distance in
+    let the-enum-told = c .before .before .before .before .enum-told in
+    question-none _ _ _ _ _ (the-find-distance .ensures) _ _ _ _ (the-enum-told .given .1) (c .before .before .write-no-way .ensures)
 
 pub answer-question-spec : {M : Type 1} → statement M
 answer-question-spec =

@@ -22,7 +22,9 @@ same-length c = search needs
 
 -- src/answering.rt:24:1
 returns : tie.Need-returns
-returns c = (refl, refusal-wrote _ _ (c .before .before .before .before .before .before .args .r) _ (c .before .before .before .before .before .before .args .line) _ _ (c .before .before .before .number .ensures) (c .before .before .write-refusal .ensures), refl)
+returns c =
+    let start = c .before .before .before .before .before .before in
+    (refl, refusal-wrote _ _ (start .args .r) _ (start .args .line) _ _ (c .before .before .before .number .ensures) (c .before .before .write-refusal .ensures), refl)
 
 pub refuse-spec : {M : Type 1} → statement M
 refuse-spec = tie.close (tie.spec number-requires write-refusal-requires same-length returns)

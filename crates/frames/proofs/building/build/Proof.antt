@@ -47,7 +47,12 @@ same-length-3 c = search needs
 
 -- src/building.rt:93:1
 returns : tie.Need-returns
-returns c = built-refused _ _ _ _ _ _ (c .before .before .before .before .before .before .before .before .before .before .before .before .before .before .before .before .before .before .before .before .before .before .before .before .before .args .tails .now) _ _ _ _ _ _ _ _ _ _ _ (c .before .before .before .before .before .before .before .before .before .before .before .before .before .before .write-starts .ensures) (c .before .before .before .before .before .covered .given .1) (c .before .before .before .before .before .before .before .before .before .find-cover .ensures) (c .before .before .refuse .ensures)
+returns c =
+    let start = c .before .before .before .before .before .before .before .before .before .before .before .before .before .before .before .before .before .before .before .before .before .before .before .before .before in
+    let the-write-starts = c .before .before .before .before .before .before .before .before .before .before .before .before .before .before .write-starts in
+    let the-find-cover = c .before .before .before .before .before .before .before .before .before .find-cover in
+    let the-covered = c .before .before .before .before .before .covered in
+    built-refused _ _ _ _ _ _ (start .args .tails .now) _ _ _ _ _ _ _ _ _ _ _ (the-write-starts .ensures) (the-covered .given .1) (the-find-cover .ensures) (c .before .before .refuse .ensures)
 
 -- src/building.rt:93:1
 same-length-4 : tie.Need-same-length-4
@@ -75,7 +80,13 @@ same-length-9 c = search needs
 
 -- src/building.rt:93:1
 returns-2 : tie.Need-returns-2
-returns-2 c = built-laid (c .before .before .before .before .before .before .before .before .before .before .before .before .before .before .before .before .before .before .before .before .before .before .before .before .before .before .before .before .before .before .before .before .before .before .before .before .args .tails .now) _ _ _ _ _ _ _ _ _ _ _ _ (c .before .before .before .before .before .before .before .before .before .before .before .before .before .before .before .before .before .before .before .before .before .before .before .before .before .write-starts .ensures) (covered-of _ _ _ _ _ _ _ _ _ (c .before .before .before .before .before .before .before .before .before .before .before .before .before .before .before .before .covered2 .given .1) (c .before .before .before .before .before .before .before .before .before .before .before .before .before .before .before .before .before .before .before .before .find-cover .ensures)) (c .before .before .before .before .before .before .before .before .lay .ensures)
+returns-2 c =
+    let start = c .before .before .before .before .before .before .before .before .before .before .before .before .before .before .before .before .before .before .before .before .before .before .before .before .before .before .before .before .before .before .before .before .before .before .before .before in
+    let the-write-starts = c .before .before .before .before .before .before .before .before .before .before .before .before .before .before .before .before .before .before .before .before .before .before .before .before .before .write-starts in
+    let the-find-cover = c .before .before .before .before .before .before .before .before .before .before .before .before .before .before .before .before .before .before .before .before .find-cover in
+    let the-covered2 = c .before .before .before .before .before .before .before .before .before .before .before .before .before .before .before .before .covered2 in
+    let the-lay = c .before .before .before .before .before .before .before .before .lay in
+    built-laid (start .args .tails .now) _ _ _ _ _ _ _ _ _ _ _ _ (the-write-starts .ensures) (covered-of _ _ _ _ _ _ _ _ _ (the-covered2 .given .1) (the-find-cover .ensures)) (the-lay .ensures)
 
 pub build-spec : {M : Type 1} → statement M
 build-spec =

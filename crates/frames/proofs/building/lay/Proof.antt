@@ -41,7 +41,10 @@ part-print-map-start c = search needs
 
 -- src/building.rt:77:17
 part-print-map-end : tie.Need-part-print-map-end
-part-print-map-end c = omega (arith, made-few (c .before .before .before .before .before .before .before .before .before .before .before .before .before .before .before .before .before .before .before .before .before .before .before .args .starts .now) (c .before .before .before .before .before .before .before .before .before .before .before .before .before .before .before .before .before .before .before .before .before .before .before .args .heads .now) (c .before .before .before .before .before .before .before .before .before .before .before .before .before .before .before .before .before .before .before .before .before .before .before .args .weights .now) (c .before .before .before .before .before .before .before .before .before .before .before .before .before .before .before .before .before .before .before .before .before .before .before .args .set .now) _ (c .before .before .before .before .before .before .before .before .before .before .before .before .before .before .before .before .before .before .before .before .before .before .before .args .over-heads .now) _ (c .before .before .before .before .before .before .before .before .before .before .before .before .before .before .before .before .before .before .before .before .before .before .before .pre .room) (c .before .before .before .before .before .before .before .before .before .before .before .before .before .before .before .before .before .before .before .before .before .before .before .args .line) _ _ _ _ (c .before .before .before .before .before .before .before .before .before .before .before .find-overlay .ensures) [] 0 [] 0 _ (c .before .before .before .laid2 .given .1) (c .before .before .before .before .before .before .before .before .before .before .before .find-overlay .kept .1 .1 .1 .1 .1 .0) (c .before .before .before .before .before .before .before .before .before .before .before .find-overlay .kept .1 .1 .1 .1 .1 .1 .0 ∙ c .before .before .before .before .before .before .before .before .before .before .before .before .before .before .before .before .before .before .before .before .before .before .before .pre .rooms) .0)
+part-print-map-end c =
+    let start = c .before .before .before .before .before .before .before .before .before .before .before .before .before .before .before .before .before .before .before .before .before .before .before in
+    let the-find-overlay = c .before .before .before .before .before .before .before .before .before .before .before .find-overlay in
+    omega (arith, made-few (start .args .starts .now) (start .args .heads .now) (start .args .weights .now) (start .args .set .now) _ (start .args .over-heads .now) _ (start .pre .room) (start .args .line) _ _ _ _ (the-find-overlay .ensures) [] 0 [] 0 _ (c .before .before .before .laid2 .given .1) (the-find-overlay .kept .1 .1 .1 .1 .1 .0) (the-find-overlay .kept .1 .1 .1 .1 .1 .1 .0 ∙ start .pre .rooms) .0)
 
 -- src/building.rt:78:17
 sub-print-map-2 : tie.Need-sub-print-map-2
@@ -53,11 +56,19 @@ part-print-map-start-2 c = search needs
 
 -- src/building.rt:78:17
 part-print-map-end-2 : tie.Need-part-print-map-end-2
-part-print-map-end-2 c = omega (arith, made-few (c .before .before .before .before .before .before .before .before .before .before .before .before .before .before .before .before .before .before .before .before .before .before .before .before .before .args .starts .now) (c .before .before .before .before .before .before .before .before .before .before .before .before .before .before .before .before .before .before .before .before .before .before .before .before .before .args .heads .now) (c .before .before .before .before .before .before .before .before .before .before .before .before .before .before .before .before .before .before .before .before .before .before .before .before .before .args .weights .now) (c .before .before .before .before .before .before .before .before .before .before .before .before .before .before .before .before .before .before .before .before .before .before .before .before .before .args .set .now) _ (c .before .before .before .before .before .before .before .before .before .before .before .before .before .before .before .before .before .before .before .before .before .before .before .before .before .args .over-heads .now) _ (c .before .before .before .before .before .before .before .before .before .before .before .before .before .before .before .before .before .before .before .before .before .before .before .before .before .pre .room) (c .before .before .before .before .before .before .before .before .before .before .before .before .before .before .before .before .before .before .before .before .before .before .before .before .before .args .line) _ _ _ _ (c .before .before .before .before .before .before .before .before .before .before .before .before .before .find-overlay .ensures) [] 0 [] 0 _ (c .before .before .before .before .before .laid2 .given .1) (c .before .before .before .before .before .before .before .before .before .before .before .before .before .find-overlay .kept .1 .1 .1 .1 .1 .0) (c .before .before .before .before .before .before .before .before .before .before .before .before .before .find-overlay .kept .1 .1 .1 .1 .1 .1 .0 ∙ c .before .before .before .before .before .before .before .before .before .before .before .before .before .before .before .before .before .before .before .before .before .before .before .before .before .pre .rooms) .1)
+part-print-map-end-2 c =
+    let start = c .before .before .before .before .before .before .before .before .before .before .before .before .before .before .before .before .before .before .before .before .before .before .before .before .before in
+    let the-find-overlay = c .before .before .before .before .before .before .before .before .before .before .before .before .before .find-overlay in
+    let the-laid2 = c .before .before .before .before .before .laid2 in
+    omega (arith, made-few (start .args .starts .now) (start .args .heads .now) (start .args .weights .now) (start .args .set .now) _ (start .args .over-heads .now) _ (start .pre .room) (start .args .line) _ _ _ _ (the-find-overlay .ensures) [] 0 [] 0 _ (the-laid2 .given .1) (the-find-overlay .kept .1 .1 .1 .1 .1 .0) (the-find-overlay .kept .1 .1 .1 .1 .1 .1 .0 ∙ start .pre .rooms) .1)
 
 -- src/building.rt:73:17
 print-map-requires : tie.Need-print-map-requires
-print-map-requires c κs = (omega (arith, c .before .before .before .before .before .before .before .before .before .before .before .before .before .before .before .before .before .before .before .before .before .before .before .before .before .before .before .pre .space, c .before .before .before .before .before .before .before .before .before .before .before .before .before .before .before .before .before .before .before .before .before .before .before .before .before .before .before .pre .bytes, c .before .before .before .before .before .before .before .before .before .before .before .before .before .before .before .before .before .before .before .before .before .before .before .before .before .before .before .pre .nodes), print-fits (c .before .before .before .before .before .before .before .before .before .before .before .before .before .before .before .before .before .before .before .before .before .before .before .before .before .before .before .args .starts .now) (c .before .before .before .before .before .before .before .before .before .before .before .before .before .before .before .before .before .before .before .before .before .before .before .before .before .before .before .args .heads .now) (c .before .before .before .before .before .before .before .before .before .before .before .before .before .before .before .before .before .before .before .before .before .before .before .before .before .before .before .args .weights .now) (c .before .before .before .before .before .before .before .before .before .before .before .before .before .before .before .before .before .before .before .before .before .before .before .before .before .before .before .args .set .now) _ (c .before .before .before .before .before .before .before .before .before .before .before .before .before .before .before .before .before .before .before .before .before .before .before .before .before .before .before .args .over-heads .now) _ (c .before .before .before .before .before .before .before .before .before .before .before .before .before .before .before .before .before .before .before .before .before .before .before .before .before .before .before .pre .room) (c .before .before .before .before .before .before .before .before .before .before .before .before .before .before .before .before .before .before .before .before .before .before .before .before .before .before .before .args .line) _ _ _ _ (c .before .before .before .before .before .before .before .before .before .before .before .before .before .before .before .find-overlay .ensures) (c .before .before .before .before .before .before .before .before .before .before .before .before .before .before .before .before .before .before .before .before .before .before .before .before .before .before .before .args .out .now) (c .before .before .before .before .before .before .before .before .before .before .before .before .before .before .before .before .before .before .before .before .before .before .before .before .before .before .before .args .at) [] 0 _ (c .before .before .before .before .before .before .before .laid2 .given .1) (c .before .before .before .before .before .before .before .before .before .before .before .before .before .before .before .find-overlay .kept .1 .1 .1 .1 .1 .0) (c .before .before .before .before .before .before .before .before .before .before .before .before .before .before .before .find-overlay .kept .1 .1 .1 .1 .1 .1 .0 ∙ c .before .before .before .before .before .before .before .before .before .before .before .before .before .before .before .before .before .before .before .before .before .before .before .before .before .before .before .pre .rooms) (c .before .before .before .before .before .before .before .before .before .before .before .before .before .before .before .before .before .before .before .before .before .before .before .before .before .before .before .pre))
+print-map-requires c κs =
+    let start = c .before .before .before .before .before .before .before .before .before .before .before .before .before .before .before .before .before .before .before .before .before .before .before .before .before .before .before in
+    let the-find-overlay = c .before .before .before .before .before .before .before .before .before .before .before .before .before .before .before .find-overlay in
+    let the-laid2 = c .before .before .before .before .before .before .before .laid2 in
+    (omega (arith, start .pre .space, start .pre .bytes, start .pre .nodes), print-fits (start .args .starts .now) (start .args .heads .now) (start .args .weights .now) (start .args .set .now) _ (start .args .over-heads .now) _ (start .pre .room) (start .args .line) _ _ _ _ (the-find-overlay .ensures) (start .args .out .now) (start .args .at) [] 0 _ (the-laid2 .given .1) (the-find-overlay .kept .1 .1 .1 .1 .1 .0) (the-find-overlay .kept .1 .1 .1 .1 .1 .1 .0 ∙ start .pre .rooms) (start .pre))
 
 -- src/building.rt:43:1
 same-length : tie.Need-same-length
@@ -77,7 +88,11 @@ same-length-4 c = search needs
 
 -- src/building.rt:43:1
 returns : tie.Need-returns
-returns c = laid-refused (c .before .before .before .before .before .before .before .before .before .before .before .before .before .before .before .before .before .before .before .before .before .before .before .before .before .args .starts .now) (c .before .before .before .before .before .before .before .before .before .before .before .before .before .before .before .before .before .before .before .before .before .before .before .before .before .args .heads .now) (c .before .before .before .before .before .before .before .before .before .before .before .before .before .before .before .before .before .before .before .before .before .before .before .before .before .args .weights .now) (c .before .before .before .before .before .before .before .before .before .before .before .before .before .before .before .before .before .before .before .before .before .before .before .before .before .args .set .now) _ (c .before .before .before .before .before .before .before .before .before .before .before .before .before .before .before .before .before .before .before .before .before .before .before .before .before .args .over-heads .now) _ (c .before .before .before .before .before .before .before .before .before .before .before .before .before .before .before .before .before .before .before .before .before .before .before .before .before .pre .room) (c .before .before .before .before .before .before .before .before .before .before .before .before .before .before .before .before .before .before .before .before .before .before .before .before .before .args .line) _ _ _ _ (c .before .before .before .before .before .before .before .before .before .before .before .before .before .find-overlay .ensures) _ _ _ _ _ _ _ _ (c .before .before .before .before .before .laid .given .1) (c .before .before .refuse .ensures)
+returns c =
+    let start = c .before .before .before .before .before .before .before .before .before .before .before .before .before .before .before .before .before .before .before .before .before .before .before .before .before in
+    let the-find-overlay = c .before .before .before .before .before .before .before .before .before .before .before .before .before .find-overlay in
+    let the-laid = c .before .before .before .before .before .laid in
+    laid-refused (start .args .starts .now) (start .args .heads .now) (start .args .weights .now) (start .args .set .now) _ (start .args .over-heads .now) _ (start .pre .room) (start .args .line) _ _ _ _ (the-find-overlay .ensures) _ _ _ _ _ _ _ _ (the-laid .given .1) (c .before .before .refuse .ensures)
 
 -- src/building.rt:43:1
 same-length-5 : tie.Need-same-length-5
@@ -97,7 +112,11 @@ same-length-8 c = search needs
 
 -- src/building.rt:43:1
 returns-2 : tie.Need-returns-2
-returns-2 c = laid-built (c .before .before .before .before .before .before .before .before .before .before .before .before .before .before .before .before .before .before .before .before .before .before .before .before .before .before .before .before .before .before .args .starts .now) (c .before .before .before .before .before .before .before .before .before .before .before .before .before .before .before .before .before .before .before .before .before .before .before .before .before .before .before .before .before .before .args .heads .now) (c .before .before .before .before .before .before .before .before .before .before .before .before .before .before .before .before .before .before .before .before .before .before .before .before .before .before .before .before .before .before .args .weights .now) (c .before .before .before .before .before .before .before .before .before .before .before .before .before .before .before .before .before .before .before .before .before .before .before .before .before .before .before .before .before .before .args .set .now) _ (c .before .before .before .before .before .before .before .before .before .before .before .before .before .before .before .before .before .before .before .before .before .before .before .before .before .before .before .before .before .before .args .over-heads .now) _ (c .before .before .before .before .before .before .before .before .before .before .before .before .before .before .before .before .before .before .before .before .before .before .before .before .before .before .before .before .before .before .pre .room) (c .before .before .before .before .before .before .before .before .before .before .before .before .before .before .before .before .before .before .before .before .before .before .before .before .before .before .before .before .before .before .args .line) _ _ _ _ (c .before .before .before .before .before .before .before .before .before .before .before .before .before .before .before .before .before .before .find-overlay .ensures) (c .before .before .before .before .before .before .before .before .before .before .before .before .before .before .before .before .before .before .before .before .before .before .before .before .before .before .before .before .before .before .args .out .now) (c .before .before .before .before .before .before .before .before .before .before .before .before .before .before .before .before .before .before .before .before .before .before .before .before .before .before .before .before .before .before .args .at) _ _ _ (c .before .before .before .before .before .before .before .before .before .before .laid2 .given .1) (c .before .before .before .before .before .before .before .before .before .before .before .before .before .before .before .before .before .before .find-overlay .kept .1 .1 .1 .1 .1 .0) (c .before .before .before .before .before .before .before .before .before .before .before .before .before .before .before .before .before .before .find-overlay .kept .1 .1 .1 .1 .1 .1 .0 ∙ c .before .before .before .before .before .before .before .before .before .before .before .before .before .before .before .before .before .before .before .before .before .before .before .before .before .before .before .before .before .before .pre .rooms) _ (c .before .before .print-map .ensures)
+returns-2 c =
+    let start = c .before .before .before .before .before .before .before .before .before .before .before .before .before .before .before .before .before .before .before .before .before .before .before .before .before .before .before .before .before .before in
+    let the-find-overlay = c .before .before .before .before .before .before .before .before .before .before .before .before .before .before .before .before .before .before .find-overlay in
+    let the-laid2 = c .before .before .before .before .before .before .before .before .before .before .laid2 in
+    laid-built (start .args .starts .now) (start .args .heads .now) (start .args .weights .now) (start .args .set .now) _ (start .args .over-heads .now) _ (start .pre .room) (start .args .line) _ _ _ _ (the-find-overlay .ensures) (start .args .out .now) (start .args .at) _ _ _ (the-laid2 .given .1) (the-find-overlay .kept .1 .1 .1 .1 .1 .0) (the-find-overlay .kept .1 .1 .1 .1 .1 .1 .0 ∙ start .pre .rooms) _ (c .before .before .print-map .ensures)
 
 pub lay-spec : {M : Type 1} → statement M
 lay-spec =

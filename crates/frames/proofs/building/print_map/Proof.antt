@@ -19,7 +19,10 @@ write-points-requires c κs = search needs
 
 -- src/building.rt:39:5
 write-arcs-requires : tie.Need-write-arcs-requires
-write-arcs-requires c κs = arcs-fit (c .before .before .before .before .before .before .before .before .before .before .before .before .before .before .args .out .now) (c .before .before .before .before .before .before .before .before .before .before .before .before .before .before .args .at) (c .before .before .before .before .before .before .before .before .before .before .before .before .before .before .args .points) (length (c .before .before .before .before .before .before .before .before .before .before .before .before .before .before .args .over-heads .now)) (c .before .before .before .before .before .before .before .before .before .before .before .before .before .before .args .set .now) (c .before .before .before .before .before .before .before .before .before .before .before .before .before .before .args .over-starts .now) (c .before .before .before .before .before .before .before .before .before .before .before .before .before .before .args .over-heads .now) (c .before .before .before .before .before .before .before .before .before .before .before .before .before .before .args .over-weights .now) (c .before .before .before .before .before .before .before .before .before .before .before .before .before .before .args .n) _ _ (c .before .before .before .before .before .before .before .write-counts .ensures) _ _ (c .before .before .before .write-points .ensures) (c .before .before .before .before .before .before .before .before .before .before .before .before .before .before .pre .1)
+write-arcs-requires c κs =
+    let start = c .before .before .before .before .before .before .before .before .before .before .before .before .before .before in
+    let the-write-counts = c .before .before .before .before .before .before .before .write-counts in
+    arcs-fit (start .args .out .now) (start .args .at) (start .args .points) (length (start .args .over-heads .now)) (start .args .set .now) (start .args .over-starts .now) (start .args .over-heads .now) (start .args .over-weights .now) (start .args .n) _ _ (the-write-counts .ensures) _ _ (c .before .before .before .write-points .ensures) (start .pre .1)
 
 -- src/building.rt:23:1
 same-length : tie.Need-same-length
@@ -27,7 +30,11 @@ same-length c = search needs
 
 -- src/building.rt:23:1
 returns : tie.Need-returns
-returns c = map-wrote (c .before .before .before .before .before .before .before .before .before .before .before .before .before .before .before .before .before .args .out .now) (c .before .before .before .before .before .before .before .before .before .before .before .before .before .before .before .before .before .args .at) (c .before .before .before .before .before .before .before .before .before .before .before .before .before .before .before .before .before .args .points) (length (c .before .before .before .before .before .before .before .before .before .before .before .before .before .before .before .before .before .args .over-heads .now)) (c .before .before .before .before .before .before .before .before .before .before .before .before .before .before .before .before .before .args .set .now) (c .before .before .before .before .before .before .before .before .before .before .before .before .before .before .before .before .before .args .over-starts .now) (c .before .before .before .before .before .before .before .before .before .before .before .before .before .before .before .before .before .args .over-heads .now) (c .before .before .before .before .before .before .before .before .before .before .before .before .before .before .before .before .before .args .over-weights .now) (c .before .before .before .before .before .before .before .before .before .before .before .before .before .before .before .before .before .args .n) _ _ (c .before .before .before .before .before .before .before .before .before .before .write-counts .ensures) _ _ (c .before .before .before .before .before .before .write-points .ensures) _ _ (c .before .before .write-arcs .ensures)
+returns c =
+    let start = c .before .before .before .before .before .before .before .before .before .before .before .before .before .before .before .before .before in
+    let the-write-counts = c .before .before .before .before .before .before .before .before .before .before .write-counts in
+    let the-write-points = c .before .before .before .before .before .before .write-points in
+    map-wrote (start .args .out .now) (start .args .at) (start .args .points) (length (start .args .over-heads .now)) (start .args .set .now) (start .args .over-starts .now) (start .args .over-heads .now) (start .args .over-weights .now) (start .args .n) _ _ (the-write-counts .ensures) _ _ (the-write-points .ensures) _ _ (c .before .before .write-arcs .ensures)
 
 pub print-map-spec : {M : Type 1} → statement M
 print-map-spec =

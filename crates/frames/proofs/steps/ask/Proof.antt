@@ -31,7 +31,9 @@ enum-known-read-2 c = search needs
 
 -- src/steps.rt:488:9
 take-drive-requires : tie.Need-take-drive-requires
-take-drive-requires c κs = ((c .before .before .before .before .before .before .before .before .before .before .before .before .before .before .pre .1 .1 .0 .0, c .before .before .before .before .before .before .before .before .before .before .before .before .before .before .pre .1 .1 .0 .1), ((c .before .before .before .before .before .before .before .before .before .before .before .before .before .before .pre .1 .0, drive-limit _ _ (c .before .before .read2 .given .1) (c .before .before .before .before .before .before .before .before .before .before .before .before .before .before .pre .0)), ((c .before .before .before .before .before .before .before .before .before .before .before .before .before .before .pre .1 .1 .1 .0 .heads-long, c .before .before .before .before .before .before .before .before .before .before .before .before .before .before .pre .1 .1 .1 .0 .weights-long, c .before .before .before .before .before .before .before .before .before .before .before .before .before .before .pre .1 .1 .1 .0 .starts-long, c .before .before .before .before .before .before .before .before .before .before .before .before .before .before .pre .1 .1 .1 .0 .chosen-long), c .before .before .before .before .before .before .before .before .before .before .before .before .before .before .pre .1 .1 .1 .1)))
+take-drive-requires c κs =
+    let start = c .before .before .before .before .before .before .before .before .before .before .before .before .before .before in
+    ((start .pre .1 .1 .0 .0, start .pre .1 .1 .0 .1), ((start .pre .1 .0, drive-limit _ _ (c .before .before .read2 .given .1) (start .pre .0)), ((start .pre .1 .1 .1 .0 .heads-long, start .pre .1 .1 .1 .0 .weights-long, start .pre .1 .1 .1 .0 .starts-long, start .pre .1 .1 .1 .0 .chosen-long), start .pre .1 .1 .1 .1)))
 
 -- src/steps.rt:488:9
 same-length-2 : tie.Need-same-length-2
@@ -51,7 +53,10 @@ same-length-3 c = search needs
 
 -- src/steps.rt:448:1
 returns-3 : tie.Need-returns-3
-returns-3 c = not-asked _ _ _ _ _ _ _ _ _ _ (c .before .before .before .before .before .match .keys2) (c .before .before .before .before .match2 .keys2) (c .before .before .refuse .ensures)
+returns-3 c =
+    let the-match = c .before .before .before .before .before .match in
+    let the-match2 = c .before .before .before .before .match2 in
+    not-asked _ _ _ _ _ _ _ _ _ _ (the-match .keys2) (the-match2 .keys2) (c .before .before .refuse .ensures)
 
 pub ask-spec : {M : Type 1} → statement M
 ask-spec =

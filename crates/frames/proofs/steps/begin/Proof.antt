@@ -27,7 +27,10 @@ returns c = halted-left _ _ _ _ _ _ _ _ _ (not-head _ _ _ (c .before .before .be
 
 -- src/steps.rt:383:5
 take-head-requires : tie.Need-take-head-requires
-take-head-requires c κs = (head-limits _ _ _ _ (c .before .before .before .before .before .before .before .read .given .1) (c .before .before .before .before .before .before .before .before .before .before .before .before .before .before .before .before .before .before .before .pre .1 .0), (c .before .before .before .before .before .before .before .before .before .before .before .before .before .before .before .before .before .before .before .pre .1 .1 .0, (c .before .before .before .before .before .before .before .before .before .before .before .before .before .before .before .before .before .before .before .pre .1 .1 .1, c .before .before .before .before .before .before .before .before .before .before .before .before .before .before .before .before .before .before .before .pre .0)))
+take-head-requires c κs =
+    let start = c .before .before .before .before .before .before .before .before .before .before .before .before .before .before .before .before .before .before .before in
+    let the-read = c .before .before .before .before .before .before .before .read in
+    (head-limits _ _ _ _ (the-read .given .1) (start .pre .1 .0), (start .pre .1 .1 .0, (start .pre .1 .1 .1, start .pre .0)))
 
 -- src/steps.rt:359:1
 same-length-2 : tie.Need-same-length-2
@@ -55,7 +58,10 @@ same-length-7 c = search needs
 
 -- src/steps.rt:359:1
 returns-2 : tie.Need-returns-2
-returns-2 c = left-as _ _ _ _ _ _ _ _ _ (begins-head _ _ _ _ _ _ (c .before .before .before .before .before .before .before .before .before .before .before .before .before .before .before .before .before .before .before .before .read .given .1)) (c .before .before .before .before .before .before .before .before .before .before .before .before .take-head .ensures)
+returns-2 c =
+    let the-read = c .before .before .before .before .before .before .before .before .before .before .before .before .before .before .before .before .before .before .before .before .read in
+    let the-take-head = c .before .before .before .before .before .before .before .before .before .before .before .before .take-head in
+    left-as _ _ _ _ _ _ _ _ _ (begins-head _ _ _ _ _ _ (the-read .given .1)) (the-take-head .ensures)
 
 pub begin-spec : {M : Type 1} → statement M
 begin-spec =

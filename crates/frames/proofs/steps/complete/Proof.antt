@@ -87,11 +87,16 @@ part-build-end-6 c = search needs
 
 -- src/steps.rt:119:9
 build-requires : tie.Need-build-requires
-build-requires c κs = complete-fits (c .before .before .before .before .before .before .before .before .before .before .before .before .before .before .before .before .before .before .args .tails .now) (c .before .before .before .before .before .before .before .before .before .before .before .before .before .before .before .before .before .before .args .heads .now) (c .before .before .before .before .before .before .before .before .before .before .before .before .before .before .before .before .before .before .args .weights .now) (c .before .before .before .before .before .before .before .before .before .before .before .before .before .before .before .before .before .before .args .starts .now) (c .before .before .before .before .before .before .before .before .before .before .before .before .before .before .before .before .before .before .args .set .now) (c .before .before .before .before .before .before .before .before .before .before .before .before .before .before .before .before .before .before .args .over-starts .now) (c .before .before .before .before .before .before .before .before .before .before .before .before .before .before .before .before .before .before .args .over-heads .now) (c .before .before .before .before .before .before .before .before .before .before .before .before .before .before .before .before .before .before .args .over-weights .now) (c .before .before .before .before .before .before .before .before .before .before .before .before .before .before .before .before .before .before .pre .1 .0) (c .before .before .before .before .before .before .before .before .before .before .before .before .before .before .before .before .before .before .args .n .0) (c .before .before .before .before .before .before .before .before .before .before .before .before .before .before .before .before .before .before .args .m .0) _ (c .before .before .before .before .before .before .before .before .before .before .before .before .before .before .before .before .before .before .args .out .now) (c .before .before .before .before .before .before .before .before .before .before .before .before .before .before .before .before .before .before .pre .0 .0) (c .before .before .before .before .before .before .before .before .before .before .before .before .before .before .before .before .before .before .pre .0 .1) (c .before .before .before .before .before .before .before .before .before .before .before .before .before .before .before .before .before .before .pre .1 .1 .0)
+build-requires c κs =
+    let start = c .before .before .before .before .before .before .before .before .before .before .before .before .before .before .before .before .before .before in
+    complete-fits (start .args .tails .now) (start .args .heads .now) (start .args .weights .now) (start .args .starts .now) (start .args .set .now) (start .args .over-starts .now) (start .args .over-heads .now) (start .args .over-weights .now) (start .pre .1 .0) (start .args .n .0) (start .args .m .0) _ (start .args .out .now) (start .pre .0 .0) (start .pre .0 .1) (start .pre .1 .1 .0)
 
 -- src/steps.rt:137:16
 settled-requires : tie.Need-settled-requires
-settled-requires c κs = (c .before .before .before .before .before .before .before .before .before .before .before .before .before .before .before .before .before .before .before .before .before .before .before .before .before .before .before .before .before .before .before .pre .1 .1 .1, (c .before .before .before .before .before .before .before .before .before .before .before .before .before .before .before .before .before .before .before .before .before .before .before .before .before .before .before .before .before .before .before .pre .0 .0, c .before .before .before .before .before .before .before .before .before .before .before .before .before .before .before .before .before .before .before .before .before .before .before .before .before .before .before .before .before .before .before .pre .0 .1, c .before .before .before .before .before .before .before .before .before .before .before .before .build .ensures .few))
+settled-requires c κs =
+    let start = c .before .before .before .before .before .before .before .before .before .before .before .before .before .before .before .before .before .before .before .before .before .before .before .before .before .before .before .before .before .before .before in
+    let the-build = c .before .before .before .before .before .before .before .before .before .before .before .before .build in
+    (start .pre .1 .1 .1, (start .pre .0 .0, start .pre .0 .1, the-build .ensures .few))
 
 -- src/steps.rt:94:1
 same-length : tie.Need-same-length
@@ -119,7 +124,10 @@ same-length-6 c = search needs
 
 -- src/steps.rt:94:1
 returns : tie.Need-returns
-returns c = settled-left _ _ _ _ _ _ _ _ _ (c .before .before .before .before .before .before .before .before .before .before .before .before .before .before .before .before .before .before .before .before .before .before .before .before .before .before .before .before .before .before .before .before .args .n .0) (c .before .before .before .before .before .before .before .before .before .before .before .before .before .before .before .before .before .before .before .before .before .before .before .before .before .before .before .before .before .before .before .before .args .m .0) _ (c .settled .ensures) (completed (c .before .before .before .before .before .before .before .before .before .before .before .before .before .before .before .before .before .before .before .before .before .before .before .before .before .before .before .before .before .before .before .before .args .n .0) (c .before .before .before .before .before .before .before .before .before .before .before .before .before .before .before .before .before .before .before .before .before .before .before .before .before .before .before .before .before .before .before .before .args .m .0) _ _ (c .before .before .before .before .before .before .before .before .before .before .before .before .before .before .before .before .before .before .before .before .before .before .before .before .before .before .before .before .before .before .before .before .args .tails .now) (c .before .before .before .before .before .before .before .before .before .before .before .before .before .before .before .before .before .before .before .before .before .before .before .before .before .before .before .before .before .before .before .before .args .heads .now) (c .before .before .before .before .before .before .before .before .before .before .before .before .before .before .before .before .before .before .before .before .before .before .before .before .before .before .before .before .before .before .before .before .args .weights .now) (c .before .before .before .before .before .before .before .before .before .before .before .before .before .before .before .before .before .before .before .before .before .before .before .before .before .before .before .before .before .before .before .before .args .starts .now) (c .before .before .before .before .before .before .before .before .before .before .before .before .before .before .before .before .before .before .before .before .before .before .before .before .before .before .before .before .before .before .before .before .args .set .now) (c .before .before .before .before .before .before .before .before .before .before .before .before .before .before .before .before .before .before .before .before .before .before .before .before .before .before .before .before .before .before .before .before .args .over-starts .now) (omega (arith, c .before .before .before .before .before .before .before .before .before .before .before .before .before .before .before .before .before .before .before .before .before .before .before .before .before .before .before .before .before .before .before .before .pre .0 .0, c .before .before .before .before .before .before .before .before .before .before .before .before .before .before .before .before .before .before .before .before .before .before .before .before .before .before .before .before .before .before .before .before .pre .1 .0 .starts-long)) (omega (arith, c .before .before .before .before .before .before .before .before .before .before .before .before .before .before .before .before .before .before .before .before .before .before .before .before .before .before .before .before .before .before .before .before .pre .0 .0, c .before .before .before .before .before .before .before .before .before .before .before .before .before .before .before .before .before .before .before .before .before .before .before .before .before .before .before .before .before .before .before .before .pre .1 .0 .chosen-long)) (omega (arith, c .before .before .before .before .before .before .before .before .before .before .before .before .before .before .before .before .before .before .before .before .before .before .before .before .before .before .before .before .before .before .before .before .pre .0 .0, c .before .before .before .before .before .before .before .before .before .before .before .before .before .before .before .before .before .before .before .before .before .before .before .before .before .before .before .before .before .before .before .before .pre .1 .0 .over-starts-long)) (c .before .before .before .before .before .before .before .before .before .before .before .before .before .build .last .1 .1 .1 .1 .1 .0) (c .before .before .before .before .before .before .before .before .before .before .before .before .before .build .last .1 .1 .1 .1 .1 .1 .0) (c .before .before .before .before .before .before .before .before .before .before .before .before .before .build .last .1 .1 .1 .1 .1 .1 .1 .0) _ _ (c .before .before .before .before .before .before .before .before .before .before .before .before .before .build .kept .1 .1 .1 .1 .1 .0) (c .before .before .before .before .before .before .before .before .before .before .before .before .before .build .kept .1 .1 .1 .1 .1 .1 .0) (c .before .before .before .before .before .before .before .before .before .before .before .before .before .build .kept .1 .1 .1 .1 .1 .1 .1 .0) _ _ _ _ _ _ (c .before .before .before .before .before .before .before .before .before .before .before .before .before .build .ensures))
+returns c =
+    let start = c .before .before .before .before .before .before .before .before .before .before .before .before .before .before .before .before .before .before .before .before .before .before .before .before .before .before .before .before .before .before .before .before in
+    let the-build = c .before .before .before .before .before .before .before .before .before .before .before .before .before .build in
+    settled-left _ _ _ _ _ _ _ _ _ (start .args .n .0) (start .args .m .0) _ (c .settled .ensures) (completed (start .args .n .0) (start .args .m .0) _ _ (start .args .tails .now) (start .args .heads .now) (start .args .weights .now) (start .args .starts .now) (start .args .set .now) (start .args .over-starts .now) (omega (arith, start .pre .0 .0, start .pre .1 .0 .starts-long)) (omega (arith, start .pre .0 .0, start .pre .1 .0 .chosen-long)) (omega (arith, start .pre .0 .0, start .pre .1 .0 .over-starts-long)) (the-build .last .1 .1 .1 .1 .1 .0) (the-build .last .1 .1 .1 .1 .1 .1 .0) (the-build .last .1 .1 .1 .1 .1 .1 .1 .0) _ _ (the-build .kept .1 .1 .1 .1 .1 .0) (the-build .kept .1 .1 .1 .1 .1 .1 .0) (the-build .kept .1 .1 .1 .1 .1 .1 .1 .0) _ _ _ _ _ _ (the-build .ensures))
 
 pub complete-spec : {M : Type 1} → statement M
 complete-spec =

@@ -13,11 +13,15 @@ wide-requires c κs = search needs
 
 -- src/steps.rt:203:9
 returns : tie.Need-returns
-returns c = falls-high _ _ (c .before .before .before .before .args .tails .now) (c .before .before .before .before .args .count) (c .before .before .before .before .pre) (omega (arith, c .if1 .taken, c .before .before .wide .ensures))
+returns c =
+    let start = c .before .before .before .before in
+    falls-high _ _ (start .args .tails .now) (start .args .count) (start .pre) (omega (arith, c .if1 .taken, c .before .before .wide .ensures))
 
 -- src/steps.rt:206:9
 returns-2 : tie.Need-returns-2
-returns-2 c = falls-first _ _ (c .before .before .before .before .before .args .tails .now) (c .before .before .before .before .before .args .count) (c .before .before .before .before .before .pre) (omega (arith, c .before .if1 .left, c .before .before .before .wide .ensures)) (c .if2 .taken)
+returns-2 c =
+    let start = c .before .before .before .before .before in
+    falls-first _ _ (start .args .tails .now) (start .args .count) (start .pre) (omega (arith, c .before .if1 .left, c .before .before .before .wide .ensures)) (c .if2 .taken)
 
 -- src/steps.rt:208:21
 sub-if3 : tie.Need-sub-if3
@@ -33,11 +37,16 @@ shared-slice-read-if3 c = search needs
 
 -- src/steps.rt:209:9
 returns-3 : tie.Need-returns-3
-returns-3 c = falls-below _ _ (c .before .before .before .before .before .before .before .args .tails .now) (c .before .before .before .before .before .before .before .args .count) (c .before .before .before .before .before .before .before .pre) (omega (arith, c .before .before .if2 .left)) (c .if3 .taken)
+returns-3 c =
+    let start = c .before .before .before .before .before .before .before in
+    falls-below _ _ (start .args .tails .now) (start .args .count) (start .pre) (omega (arith, c .before .before .if2 .left)) (c .if3 .taken)
 
 -- src/steps.rt:198:1
 returns-4 : tie.Need-returns-4
-returns-4 c = falls-not _ _ (c .before .before .before .before .before .before .before .args .tails .now) (c .before .before .before .before .before .before .before .args .count) (c .before .before .before .before .before .before .before .pre) (omega (arith, c .before .before .if2 .left)) (omega (arith, c .before .before .before .if1 .left, c .before .before .before .before .before .wide .ensures)) (omega (arith, c .if3 .left))
+returns-4 c =
+    let start = c .before .before .before .before .before .before .before in
+    let the-wide = c .before .before .before .before .before .wide in
+    falls-not _ _ (start .args .tails .now) (start .args .count) (start .pre) (omega (arith, c .before .before .if2 .left)) (omega (arith, c .before .before .before .if1 .left, the-wide .ensures)) (omega (arith, c .if3 .left))
 
 pub falls-spec : {M : Type 1} → statement M
 falls-spec =

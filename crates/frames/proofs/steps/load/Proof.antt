@@ -23,7 +23,10 @@ same-length c = search needs
 
 -- src/steps.rt:426:9
 returns : tie.Need-returns
-returns c = halted-left _ _ _ _ _ _ _ _ _ (not-arc _ (c .before .before .before .before .before .before .before .before .before .before .before .before .before .before .before .args .s) (areas (c .before .before .before .before .before .before .before .before .before .before .before .before .before .before .before .args .tails .now) (c .before .before .before .before .before .before .before .before .before .before .before .before .before .before .before .args .heads .now) (c .before .before .before .before .before .before .before .before .before .before .before .before .before .before .before .args .weights .now) (c .before .before .before .before .before .before .before .before .before .before .before .before .before .before .before .args .starts .now) (c .before .before .before .before .before .before .before .before .before .before .before .before .before .before .before .args .set .now) (c .before .before .before .before .before .before .before .before .before .before .before .before .before .before .before .args .over-starts .now) (c .before .before .before .before .before .before .before .before .before .before .before .before .before .before .before .args .over-heads .now) (c .before .before .before .before .before .before .before .before .before .before .before .before .before .before .before .args .over-weights .now)) _ _ (c .before .before .before .before .match .keys2)) (c .before .before .stop .ensures)
+returns c =
+    let start = c .before .before .before .before .before .before .before .before .before .before .before .before .before .before .before in
+    let the-match = c .before .before .before .before .match in
+    halted-left _ _ _ _ _ _ _ _ _ (not-arc _ (start .args .s) (areas (start .args .tails .now) (start .args .heads .now) (start .args .weights .now) (start .args .starts .now) (start .args .set .now) (start .args .over-starts .now) (start .args .over-heads .now) (start .args .over-weights .now)) _ _ (the-match .keys2)) (c .before .before .stop .ensures)
 
 -- src/steps.rt:428:5
 take-arc-requires : tie.Need-take-arc-requires
@@ -67,7 +70,10 @@ same-length-10 c = search needs
 
 -- src/steps.rt:402:1
 returns-2 : tie.Need-returns-2
-returns-2 c = left-as _ _ _ _ _ _ _ _ _ (loads-arc _ _ _ _ _ _ _ (c .before .before .before .before .before .before .before .before .before .before .before .before .before .before .before .before .before .before .before .before .before .before .before .before .before .before .before .before .before .read .given .1)) (c .before .before .before .before .before .before .before .before .before .before .before .before .before .before .before .before .before .before .take-arc .ensures)
+returns-2 c =
+    let the-read = c .before .before .before .before .before .before .before .before .before .before .before .before .before .before .before .before .before .before .before .before .before .before .before .before .before .before .before .before .before .read in
+    let the-take-arc = c .before .before .before .before .before .before .before .before .before .before .before .before .before .before .before .before .before .before .take-arc in
+    left-as _ _ _ _ _ _ _ _ _ (loads-arc _ _ _ _ _ _ _ (the-read .given .1)) (the-take-arc .ensures)
 
 pub load-spec : {M : Type 1} → statement M
 load-spec =

@@ -92,7 +92,9 @@ same-length c = search needs
 
 -- src/steps.rt:323:1
 returns : tie.Need-returns
-returns c = drive-driven _ (c .before .before .before .before .before .before .before .before .before .before .before .before .before .before .before .before .before .args .s .n .0) (c .before .before .before .before .before .before .before .before .before .before .before .before .before .before .before .before .before .args .s .m .0) (c .before .before .before .before .before .before .before .before .before .before .before .before .before .before .before .before .before .args .count) (c .before .before .before .before .before .before .before .before .before .before .before .before .before .before .before .before .before .args .starts .now) (c .before .before .before .before .before .before .before .before .before .before .before .before .before .before .before .before .before .args .heads .now) (c .before .before .before .before .before .before .before .before .before .before .before .before .before .before .before .before .before .args .weights .now) (c .before .before .before .before .before .before .before .before .before .before .before .before .before .before .before .before .before .args .set .now) (c .before .before .before .before .before .before .before .before .before .before .before .before .before .before .before .before .before .args .nodes .now) _ _ _ _ _ (c .before .before .before .answer-drive .ensures)
+returns c =
+    let start = c .before .before .before .before .before .before .before .before .before .before .before .before .before .before .before .before .before in
+    drive-driven _ (start .args .s .n .0) (start .args .s .m .0) (start .args .count) (start .args .starts .now) (start .args .heads .now) (start .args .weights .now) (start .args .set .now) (start .args .nodes .now) _ _ _ _ _ (c .before .before .before .answer-drive .ensures)
 
 pub take-drive-spec : {M : Type 1} → statement M
 take-drive-spec =

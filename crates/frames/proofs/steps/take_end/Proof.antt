@@ -18,7 +18,9 @@ add-stop c = search needs
 
 -- src/steps.rt:604:25
 stop-requires : tie.Need-stop-requires
-stop-requires c κs = (c .before .before .before .before .pre .1 .1, early-first _ (c .before .before .before .before .pre .1 .0) (c .before .enum-told .given .1))
+stop-requires c κs =
+    let start = c .before .before .before .before in
+    (start .pre .1 .1, early-first _ (start .pre .1 .0) (c .before .enum-told .given .1))
 
 -- src/steps.rt:605:32
 enum-told-2 : tie.Need-enum-told-2
@@ -30,7 +32,9 @@ add-stop-2 c = search needs
 
 -- src/steps.rt:605:27
 stop-requires-2 : tie.Need-stop-requires-2
-stop-requires-2 c κs = (c .before .before .before .before .pre .1 .1, early-arc _ (c .before .before .before .before .pre .1 .0) (c .before .enum-told2 .given .1))
+stop-requires-2 c κs =
+    let start = c .before .before .before .before in
+    (start .pre .1 .1, early-arc _ (start .pre .1 .0) (c .before .enum-told2 .given .1))
 
 -- src/steps.rt:607:20
 enum-told-3 : tie.Need-enum-told-3

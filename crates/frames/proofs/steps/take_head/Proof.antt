@@ -9,7 +9,9 @@ use native.Mathlib.Omega.{arith}
 
 -- src/steps.rt:166:9
 returns : tie.Need-returns
-returns c = head-more _ _ _ _ _ _ _ (c .before .before .before .before .before .before .before .before .before .before .before .pre .1 .1 .1) (c .before .before .before .before .before .before .before .before .before .before .before .pre .0) (c .if1 .taken) (omega (arith, c .before .before .before .before .before .before .before .before .before .before .before .pre .1 .1 .0))
+returns c =
+    let start = c .before .before .before .before .before .before .before .before .before .before .before in
+    head-more _ _ _ _ _ _ _ (start .pre .1 .1 .1) (start .pre .0) (c .if1 .taken) (omega (arith, start .pre .1 .1 .0))
 
 -- src/steps.rt:179:5
 complete-requires : tie.Need-complete-requires
@@ -41,7 +43,11 @@ same-length-6 c = search needs
 
 -- src/steps.rt:143:1
 returns-2 : tie.Need-returns-2
-returns-2 c = left-as _ _ _ _ _ _ _ _ _ (head-complete _ _ _ _ (c .before .before .before .before .before .before .before .before .before .before .before .before .before .before .before .before .before .before .before .before .before .before .before .before .before .before .before .before .before .before .args .tails .now) (c .before .before .before .before .before .before .before .before .before .before .before .before .before .before .before .before .before .before .before .before .before .before .before .before .before .before .before .before .before .before .args .heads .now) (c .before .before .before .before .before .before .before .before .before .before .before .before .before .before .before .before .before .before .before .before .before .before .before .before .before .before .before .before .before .before .args .weights .now) (omega (arith, c .before .before .before .before .before .before .before .before .before .before .before .before .before .before .before .before .before .before .before .if1 .left))) (c .before .before .before .before .before .before .before .before .before .before .before .before .complete .ensures)
+returns-2 c =
+    let start = c .before .before .before .before .before .before .before .before .before .before .before .before .before .before .before .before .before .before .before .before .before .before .before .before .before .before .before .before .before .before in
+    let the-if1 = c .before .before .before .before .before .before .before .before .before .before .before .before .before .before .before .before .before .before .before .if1 in
+    let the-complete = c .before .before .before .before .before .before .before .before .before .before .before .before .complete in
+    left-as _ _ _ _ _ _ _ _ _ (head-complete _ _ _ _ (start .args .tails .now) (start .args .heads .now) (start .args .weights .now) (omega (arith, the-if1 .left))) (the-complete .ensures)
 
 pub take-head-spec : {M : Type 1} → statement M
 take-head-spec =

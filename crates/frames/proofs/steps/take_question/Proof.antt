@@ -104,7 +104,9 @@ same-length c = search needs
 
 -- src/steps.rt:282:1
 returns : tie.Need-returns
-returns c = question-asked _ (c .before .before .before .before .before .before .before .before .before .before .before .before .before .before .before .before .before .before .before .args .s .n .0) (c .before .before .before .before .before .before .before .before .before .before .before .before .before .before .before .before .before .before .before .args .s .m .0) (c .before .before .before .before .before .before .before .before .before .before .before .before .before .before .before .before .before .before .before .args .s .over .0) (c .before .before .before .before .before .before .before .before .before .before .before .before .before .before .before .before .before .before .before .args .starts .now) (c .before .before .before .before .before .before .before .before .before .before .before .before .before .before .before .before .before .before .before .args .heads .now) (c .before .before .before .before .before .before .before .before .before .before .before .before .before .before .before .before .before .before .before .args .weights .now) (c .before .before .before .before .before .before .before .before .before .before .before .before .before .before .before .before .before .before .before .args .set .now) (c .before .before .before .before .before .before .before .before .before .before .before .before .before .before .before .before .before .before .before .args .over-starts .now) (c .before .before .before .before .before .before .before .before .before .before .before .before .before .before .before .before .before .before .before .args .over-heads .now) (c .before .before .before .before .before .before .before .before .before .before .before .before .before .before .before .before .before .before .before .args .over-weights .now) _ _ (c .before .before .answer-question .result .good) _ _ _ _ (c .before .before .answer-question .ensures)
+returns c =
+    let start = c .before .before .before .before .before .before .before .before .before .before .before .before .before .before .before .before .before .before .before in
+    question-asked _ (start .args .s .n .0) (start .args .s .m .0) (start .args .s .over .0) (start .args .starts .now) (start .args .heads .now) (start .args .weights .now) (start .args .set .now) (start .args .over-starts .now) (start .args .over-heads .now) (start .args .over-weights .now) _ _ (c .before .before .answer-question .result .good) _ _ _ _ (c .before .before .answer-question .ensures)
 
 pub take-question-spec : {M : Type 1} → statement M
 take-question-spec =

@@ -21,7 +21,10 @@ same-length c = search needs
 
 -- src/steps.rt:589:9
 returns : tie.Need-returns
-returns c = unended-beyond _ _ _ _ _ _ (c .before .before .before .before .before .before .pre .0) (c .before .before .before .before .if1 .taken) (c .before .before .stop .ensures)
+returns c =
+    let start = c .before .before .before .before .before .before in
+    let the-if1 = c .before .before .before .before .if1 in
+    unended-beyond _ _ _ _ _ _ (start .pre .0) (the-if1 .taken) (c .before .before .stop .ensures)
 
 -- src/steps.rt:591:5
 stop-requires-2 : tie.Need-stop-requires-2
@@ -33,7 +36,10 @@ same-length-2 c = search needs
 
 -- src/steps.rt:581:1
 returns-2 : tie.Need-returns-2
-returns-2 c = unended-cut _ _ _ _ _ _ (c .before .before .before .before .before .before .pre .0) (omega (arith, c .before .before .before .before .if1 .left)) (c .before .before .stop2 .ensures)
+returns-2 c =
+    let start = c .before .before .before .before .before .before in
+    let the-if1 = c .before .before .before .before .if1 in
+    unended-cut _ _ _ _ _ _ (start .pre .0) (omega (arith, the-if1 .left)) (c .before .before .stop2 .ensures)
 
 pub take-unended-spec : {M : Type 1} → statement M
 take-unended-spec =

@@ -56,7 +56,9 @@ same-length-10 c = search needs
 
 -- src/distances.rt:30:1
 returns : tie.Need-returns
-returns c = (rw (c .of-distance .ensures .0) (c .before .before .before .before .before .before .before .before .before .before .before .before .before .before .before .before .before .before .before .before .before .any-pair .ensures), c .of-distance .ensures .1)
+returns c =
+    let the-any-pair = c .before .before .before .before .before .before .before .before .before .before .before .before .before .before .before .before .before .before .before .before .before .any-pair in
+    (rw (c .of-distance .ensures .0) (the-any-pair .ensures), c .of-distance .ensures .1)
 
 pub gulvane-any-pair-spec : {M : Type 1} → statement M
 gulvane-any-pair-spec =

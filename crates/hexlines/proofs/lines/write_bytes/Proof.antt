@@ -37,7 +37,11 @@ loop-less c = omega arith
 
 -- src/lines.rt:15:5
 loop-again : tie.Need-loop-again Inv-loop μ-loop
-loop-again c = writing-more _ _ _ (c .before .before .before .before .before .before .before .before .before .pre) _ _ _ (c .before .before .before .before .before .before .loop .inv) _ _ (c .before .before .before .before .before .loop-test .taken) (c .before .before .write-byte .ensures .0) (c .before .before .write-byte .ensures .1)
+loop-again c =
+    let start = c .before .before .before .before .before .before .before .before .before in
+    let the-loop = c .before .before .before .before .before .before .loop in
+    let the-loop-test = c .before .before .before .before .before .loop-test in
+    writing-more _ _ _ (start .pre) _ _ _ (the-loop .inv) _ _ (the-loop-test .taken) (c .before .before .write-byte .ensures .0) (c .before .before .write-byte .ensures .1)
 
 -- src/lines.rt:9:1
 same-length : tie.Need-same-length Inv-loop μ-loop

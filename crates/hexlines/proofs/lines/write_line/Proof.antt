@@ -12,7 +12,9 @@ write-bytes-requires c κs = search needs
 
 -- src/lines.rt:29:5
 slice-write-out : tie.Need-slice-write-out
-slice-write-out c = line-room _ _ (c .before .before .before .before .before .before .args .bytes .now) _ _ (c .before .before .before .before .before .before .pre) (c .before .before .write-bytes .ensures) .1
+slice-write-out c =
+    let start = c .before .before .before .before .before .before in
+    line-room _ _ (start .args .bytes .now) _ _ (start .pre) (c .before .before .write-bytes .ensures) .1
 
 -- src/lines.rt:30:5
 add-result : tie.Need-add-result
@@ -24,7 +26,9 @@ same-length c = search needs
 
 -- src/lines.rt:24:1
 returns : tie.Need-returns
-returns c = wrote-line _ _ (c .before .before .before .before .before .before .args .bytes .now) _ _ (c .before .before .write-bytes .ensures) (line-room _ _ (c .before .before .before .before .before .before .args .bytes .now) _ _ (c .before .before .before .before .before .before .pre) (c .before .before .write-bytes .ensures) .0)
+returns c =
+    let start = c .before .before .before .before .before .before in
+    wrote-line _ _ (start .args .bytes .now) _ _ (c .before .before .write-bytes .ensures) (line-room _ _ (start .args .bytes .now) _ _ (start .pre) (c .before .before .write-bytes .ensures) .0)
 
 pub write-line-spec : {M : Type 1} → statement M
 write-line-spec =

@@ -35,7 +35,9 @@ cast-write-byte c = search needs
 
 -- src/lines.rt:41:9
 write-byte-requires : tie.Need-write-byte-requires Inv-loop μ-loop
-write-byte-requires c κs = numbers-room _ _ (c .before .before .before .before .before .before .args .numbers .now) (c .before .before .before .before .before .before .pre) _ _ _ (c .before .before .before .loop .inv) (c .before .before .loop-test .taken)
+write-byte-requires c κs =
+    let start = c .before .before .before .before .before .before in
+    numbers-room _ _ (start .args .numbers .now) (start .pre) _ _ _ (c .before .before .before .loop .inv) (c .before .before .loop-test .taken)
 
 -- src/lines.rt:42:9
 add-p : tie.Need-add-p Inv-loop μ-loop
@@ -47,7 +49,11 @@ loop-less c = omega arith
 
 -- src/lines.rt:40:5
 loop-again : tie.Need-loop-again Inv-loop μ-loop
-loop-again c = numbers-more _ _ (c .before .before .before .before .before .before .before .before .before .args .numbers .now) (c .before .before .before .before .before .before .before .before .before .pre) _ _ _ (c .before .before .before .before .before .before .loop .inv) _ _ (c .before .before .before .before .before .loop-test .taken) (c .before .before .write-byte .ensures .0) (c .before .before .write-byte .ensures .1)
+loop-again c =
+    let start = c .before .before .before .before .before .before .before .before .before in
+    let the-loop = c .before .before .before .before .before .before .loop in
+    let the-loop-test = c .before .before .before .before .before .loop-test in
+    numbers-more _ _ (start .args .numbers .now) (start .pre) _ _ _ (the-loop .inv) _ _ (the-loop-test .taken) (c .before .before .write-byte .ensures .0) (c .before .before .write-byte .ensures .1)
 
 -- src/lines.rt:34:1
 same-length : tie.Need-same-length Inv-loop μ-loop
@@ -55,7 +61,9 @@ same-length c = wrote-long _ _ _ _ _ (c .before .loop .inv .wrote)
 
 -- src/lines.rt:34:1
 returns : tie.Need-returns Inv-loop μ-loop
-returns c = numbers-end _ _ (c .before .before .before .before .args .numbers .now) (c .before .before .before .before .pre) _ _ _ (c .before .loop .inv) (c .loop-test .left)
+returns c =
+    let start = c .before .before .before .before in
+    numbers-end _ _ (start .args .numbers .now) (start .pre) _ _ _ (c .before .loop .inv) (c .loop-test .left)
 
 pub write-numbers-spec : {M : Type 1} → statement M
 write-numbers-spec =

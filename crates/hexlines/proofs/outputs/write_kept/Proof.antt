@@ -29,7 +29,10 @@ write-numbers-requires c κs = search needs
 
 -- src/outputs.rt:110:5
 slice-write-out : tie.Need-slice-write-out
-slice-write-out c = kept-room _ _ (c .before .before .before .before .before .before .before .before .before .before .before .args .positions .now) _ _ (kept-fits _ _ (176 ∷ one (length (c .before .before .before .before .before .before .before .before .before .before .before .args .positions .now))) _ _ (c .before .before .before .before .before .before .before .before .before .before .before .args .positions .now) refl (c .before .before .before .before .before .before .before .before .before .before .before .pre) (c .before .before .before .before .before .before .write-bytes .ensures)) (c .before .before .write-numbers .ensures) .1
+slice-write-out c =
+    let start = c .before .before .before .before .before .before .before .before .before .before .before in
+    let the-write-bytes = c .before .before .before .before .before .before .write-bytes in
+    kept-room _ _ (start .args .positions .now) _ _ (kept-fits _ _ (176 ∷ one (length (start .args .positions .now))) _ _ (start .args .positions .now) refl (start .pre) (the-write-bytes .ensures)) (c .before .before .write-numbers .ensures) .1
 
 -- src/outputs.rt:111:5
 add-result : tie.Need-add-result
@@ -37,11 +40,17 @@ add-result c = search needs
 
 -- src/outputs.rt:103:1
 same-length : tie.Need-same-length
-same-length c = wrote-long _ _ _ _ _ (wrote-kept _ _ (c .before .before .before .before .before .before .before .before .before .before .before .args .positions .now) _ _ _ _ (c .before .before .before .before .before .before .before .before .before .before .before .pre) (c .before .before .before .before .before .before .write-bytes .ensures) (c .before .before .write-numbers .ensures))
+same-length c =
+    let start = c .before .before .before .before .before .before .before .before .before .before .before in
+    let the-write-bytes = c .before .before .before .before .before .before .write-bytes in
+    wrote-long _ _ _ _ _ (wrote-kept _ _ (start .args .positions .now) _ _ _ _ (start .pre) (the-write-bytes .ensures) (c .before .before .write-numbers .ensures))
 
 -- src/outputs.rt:103:1
 returns : tie.Need-returns
-returns c = wrote-kept _ _ (c .before .before .before .before .before .before .before .before .before .before .before .args .positions .now) _ _ _ _ (c .before .before .before .before .before .before .before .before .before .before .before .pre) (c .before .before .before .before .before .before .write-bytes .ensures) (c .before .before .write-numbers .ensures)
+returns c =
+    let start = c .before .before .before .before .before .before .before .before .before .before .before in
+    let the-write-bytes = c .before .before .before .before .before .before .write-bytes in
+    wrote-kept _ _ (start .args .positions .now) _ _ _ _ (start .pre) (the-write-bytes .ensures) (c .before .before .write-numbers .ensures)
 
 pub write-kept-spec : {M : Type 1} → statement M
 write-kept-spec =

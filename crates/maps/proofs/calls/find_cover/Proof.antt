@@ -119,7 +119,11 @@ same-length c = search needs
 
 -- src/calls.rt:16:1
 returns : tie.Need-returns
-returns c = cover-found (c .before .before .before .before .before .before .before .before .before .before .before .before .before .before .before .before .before .before .before .before .before .before .before .before .before .args .starts .now) _ _ _ _ _ _ _ (front-numbers _ (nodesOf (c .before .before .before .before .before .before .before .before .before .before .before .before .before .before .before .before .before .before .before .before .before .before .before .before .before .args .starts .now)) 512 (omega (arith, c .before .before .before .before .before .before .before .before .before .before .before .before .before .before .before .before .before .before .before .before .before .before .before .before .before .pre .graph .nodes)) (c .before .before .before .before .before .before .before .before .before .before .before .before .before .before .before .before .before .before .before .count-up .ensures)) (c .before .before .before .before .before .before .before .before .before .before .before .before .before .before .before .before .before .before .before .before .before .before .before .before .before .pre .bytes, (front-long _ 513 (omega (arith, c .before .before .before .before .before .before .before .before .before .before .before .before .before .before .before .before .before .before .before .before .before .before .before .before .before .pre .graph .nodes, c .before .before .before .before .before .before .before .before .before .before .before .before .before .before .before .before .before .before .before .before .before .before .before .before .before .pre .graph .some)), (front-long _ 2048 (omega (arith, c .before .before .before .before .before .before .before .before .before .before .before .before .before .before .before .before .before .before .before .before .before .before .before .before .before .pre .graph .arcs)), (front-long _ 2048 (omega (arith, c .before .before .before .before .before .before .before .before .before .before .before .before .before .before .before .before .before .before .before .before .before .before .before .before .before .pre .graph .arcs)), (front-long _ 512 (omega (arith, c .before .before .before .before .before .before .before .before .before .before .before .before .before .before .before .before .before .before .before .before .before .before .before .before .before .pre .graph .nodes)), (front-long _ 512 (omega (arith, c .before .before .before .before .before .before .before .before .before .before .before .before .before .before .before .before .before .before .before .before .before .before .before .before .before .pre .graph .nodes)), (front-long _ 512 (omega (arith, c .before .before .before .before .before .before .before .before .before .before .before .before .before .before .before .before .before .before .before .before .before .before .before .before .before .pre .graph .nodes)), tt))))))) (c .before .before .before .before .before .before .before .before .cover .ensures)
+returns c =
+    let start = c .before .before .before .before .before .before .before .before .before .before .before .before .before .before .before .before .before .before .before .before .before .before .before .before .before in
+    let the-count-up = c .before .before .before .before .before .before .before .before .before .before .before .before .before .before .before .before .before .before .before .count-up in
+    let the-cover = c .before .before .before .before .before .before .before .before .cover in
+    cover-found (start .args .starts .now) _ _ _ _ _ _ _ (front-numbers _ (nodesOf (start .args .starts .now)) 512 (omega (arith, start .pre .graph .nodes)) (the-count-up .ensures)) (start .pre .bytes, (front-long _ 513 (omega (arith, start .pre .graph .nodes, start .pre .graph .some)), (front-long _ 2048 (omega (arith, start .pre .graph .arcs)), (front-long _ 2048 (omega (arith, start .pre .graph .arcs)), (front-long _ 512 (omega (arith, start .pre .graph .nodes)), (front-long _ 512 (omega (arith, start .pre .graph .nodes)), (front-long _ 512 (omega (arith, start .pre .graph .nodes)), tt))))))) (the-cover .ensures)
 
 pub find-cover-spec : {M : Type 1} → statement M
 find-cover-spec =

@@ -145,7 +145,10 @@ any-pair-requires c κs = search needs
 
 -- src/calls.rt:88:1
 returns : tie.Need-returns
-returns c = pair-found _ _ _ _ _ _ _ _ _ _ _ _ (front-long _ 513 (omega (arith, c .before .before .before .before .before .before .before .before .before .before .before .before .before .before .before .before .before .before .before .before .before .before .before .before .before .before .before .before .pre .some, c .before .before .before .before .before .before .before .before .before .before .before .before .before .before .before .before .before .before .before .before .before .before .before .before .before .before .before .before .pre .nodes)), (front-long _ 2048 (omega (arith, c .before .before .before .before .before .before .before .before .before .before .before .before .before .before .before .before .before .before .before .before .before .before .before .before .before .before .before .before .pre .arcs)), (front-long _ 2048 (omega (arith, c .before .before .before .before .before .before .before .before .before .before .before .before .before .before .before .before .before .before .before .before .before .before .before .before .before .before .before .before .pre .arcs)), (front-long _ 512 (omega (arith, c .before .before .before .before .before .before .before .before .before .before .before .before .before .before .before .before .before .before .before .before .before .before .before .before .before .before .before .before .pre .nodes)), (front-long _ 512 (omega (arith, c .before .before .before .before .before .before .before .before .before .before .before .before .before .before .before .before .before .before .before .before .before .before .before .before .before .before .before .before .pre .nodes)), (front-long _ 512 (omega (arith, c .before .before .before .before .before .before .before .before .before .before .before .before .before .before .before .before .before .before .before .before .before .before .before .before .before .before .before .before .pre .nodes)), (front-long _ 1024 (omega (arith, c .before .before .before .before .before .before .before .before .before .before .before .before .before .before .before .before .before .before .before .before .before .before .before .before .before .before .before .before .pre .nodes)), (front-long _ 512 (omega (arith, c .before .before .before .before .before .before .before .before .before .before .before .before .before .before .before .before .before .before .before .before .before .before .before .before .before .before .before .before .pre .nodes)), (front-long _ 512 (omega (arith, c .before .before .before .before .before .before .before .before .before .before .before .before .before .before .before .before .before .before .before .before .before .before .before .before .before .before .before .before .pre .nodes)), (front-long _ 512 (omega (arith, c .before .before .before .before .before .before .before .before .before .before .before .before .before .before .before .before .before .before .before .before .before .before .before .before .before .before .before .before .pre .nodes)), tt)))))))))) (c .before .before .before .before .before .before .before .before .before .before .any-pair .ensures)
+returns c =
+    let start = c .before .before .before .before .before .before .before .before .before .before .before .before .before .before .before .before .before .before .before .before .before .before .before .before .before .before .before .before in
+    let the-any-pair = c .before .before .before .before .before .before .before .before .before .before .any-pair in
+    pair-found _ _ _ _ _ _ _ _ _ _ _ _ (front-long _ 513 (omega (arith, start .pre .some, start .pre .nodes)), (front-long _ 2048 (omega (arith, start .pre .arcs)), (front-long _ 2048 (omega (arith, start .pre .arcs)), (front-long _ 512 (omega (arith, start .pre .nodes)), (front-long _ 512 (omega (arith, start .pre .nodes)), (front-long _ 512 (omega (arith, start .pre .nodes)), (front-long _ 1024 (omega (arith, start .pre .nodes)), (front-long _ 512 (omega (arith, start .pre .nodes)), (front-long _ 512 (omega (arith, start .pre .nodes)), (front-long _ 512 (omega (arith, start .pre .nodes)), tt)))))))))) (the-any-pair .ensures)
 
 pub find-distance-spec : {M : Type 1} → statement M
 find-distance-spec =

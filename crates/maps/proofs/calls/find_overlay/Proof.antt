@@ -81,7 +81,10 @@ same-length-3 c = search needs
 
 -- src/calls.rt:54:1
 returns : tie.Need-returns
-returns c = overlay-found _ _ _ _ _ _ _ (c .before .before .before .before .before .before .before .before .before .before .before .before .before .before .before .before .before .before .before .before .before .before .before .before .before .pre .starts-long, (c .before .before .before .before .before .before .before .before .before .before .before .before .before .before .before .before .before .before .before .before .before .before .before .before .before .pre .rooms, (front-long _ 512 (omega (arith, c .before .before .before .before .before .before .before .before .before .before .before .before .before .before .before .before .before .before .before .before .before .before .before .before .before .pre .graph .nodes)), (front-long _ 1024 (omega (arith, c .before .before .before .before .before .before .before .before .before .before .before .before .before .before .before .before .before .before .before .before .before .before .before .before .before .pre .graph .nodes)), (front-long _ 512 (omega (arith, c .before .before .before .before .before .before .before .before .before .before .before .before .before .before .before .before .before .before .before .before .before .before .before .before .before .pre .graph .nodes)), (front-long _ 512 (omega (arith, c .before .before .before .before .before .before .before .before .before .before .before .before .before .before .before .before .before .before .before .before .before .before .before .before .before .pre .graph .nodes)), tt)))))) (c .before .before .before .before .before .before .before .before .before .before .overlay .ensures)
+returns c =
+    let start = c .before .before .before .before .before .before .before .before .before .before .before .before .before .before .before .before .before .before .before .before .before .before .before .before .before in
+    let the-overlay = c .before .before .before .before .before .before .before .before .before .before .overlay in
+    overlay-found _ _ _ _ _ _ _ (start .pre .starts-long, (start .pre .rooms, (front-long _ 512 (omega (arith, start .pre .graph .nodes)), (front-long _ 1024 (omega (arith, start .pre .graph .nodes)), (front-long _ 512 (omega (arith, start .pre .graph .nodes)), (front-long _ 512 (omega (arith, start .pre .graph .nodes)), tt)))))) (the-overlay .ensures)
 
 pub find-overlay-spec : {M : Type 1} → statement M
 find-overlay-spec =

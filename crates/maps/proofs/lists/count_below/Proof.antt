@@ -38,7 +38,10 @@ below-requires c κs = search needs
 
 -- src/lists.rt:40:9
 add-count : tie.Need-add-count Inv-loop μ-loop
-add-count c = omega (arith, c .before .before .before .before .loop .inv .few, c .before .before .before .before .loop .inv .within, c .before .before .before .before .before .before .pre, c .below .ensures .1)
+add-count c =
+    let start = c .before .before .before .before .before .before in
+    let the-loop = c .before .before .before .before .loop in
+    omega (arith, the-loop .inv .few, the-loop .inv .within, start .pre, c .below .ensures .1)
 
 -- src/lists.rt:41:9
 add-i : tie.Need-add-i Inv-loop μ-loop

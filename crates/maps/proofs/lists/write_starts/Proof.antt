@@ -43,7 +43,9 @@ loop-less c = omega (arith, c .before .before .loop .inv .long, c .before .loop-
 
 -- src/lists.rt:52:5
 loop-again : tie.Need-loop-again Inv-loop μ-loop
-loop-again c = filled-more (belows (c .before .before .before .before .before .args .tails .now) 0) _ _ _ _ (omega (arith, c .before .before .loop .inv .long, c .before .loop-test .taken)) (belows-more (c .before .before .before .before .before .args .tails .now) (c .before .before .loop .v) _ (c .count-below .ensures)) (c .before .before .loop .inv)
+loop-again c =
+    let start = c .before .before .before .before .before in
+    filled-more (belows (start .args .tails .now) 0) _ _ _ _ (omega (arith, c .before .before .loop .inv .long, c .before .loop-test .taken)) (belows-more (start .args .tails .now) (c .before .before .loop .v) _ (c .count-below .ensures)) (c .before .before .loop .inv)
 
 -- src/lists.rt:47:1
 same-length : tie.Need-same-length Inv-loop μ-loop

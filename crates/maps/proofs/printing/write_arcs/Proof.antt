@@ -17,7 +17,9 @@ abbrev μ-loop : tie.MeasureT-loop
 
 -- src/printing.rt:75:5
 loop-holds : tie.Need-loop-holds Inv-loop μ-loop
-loop-holds c = rows-none (c .before .before .before .before .args .out .now) _ (c .before .before .before .before .args .starts .now) (c .before .before .before .before .args .heads .now) (c .before .before .before .before .args .weights .now) _ (c .before .before .before .before .pre)
+loop-holds c =
+    let start = c .before .before .before .before in
+    rows-none (start .args .out .now) _ (start .args .starts .now) (start .args .heads .now) (start .args .weights .now) _ (start .pre)
 
 -- src/printing.rt:76:25
 mul-wide : tie.Need-mul-wide Inv-loop μ-loop
@@ -49,7 +51,11 @@ wide-requires-2 c κs = search needs
 
 -- src/printing.rt:78:9
 write-row-requires : tie.Need-write-row-requires Inv-loop μ-loop
-write-row-requires c κs = rows-ask (c .before .before .before .before .before .before .before .before .before .before .before .args .out .now) _ (c .before .before .before .before .before .before .before .before .before .before .before .args .starts .now) (c .before .before .before .before .before .before .before .before .before .before .before .args .heads .now) (c .before .before .before .before .before .before .before .before .before .before .before .args .weights .now) _ (c .before .before .before .before .before .before .before .before .before .before .before .pre) _ _ _ (c .before .before .before .before .before .before .loop .inv) _ _ (c .before .before .before .before .before .loop-test .taken) (c .before .before .before .wide .ensures) (c .before .wide2 .ensures)
+write-row-requires c κs =
+    let start = c .before .before .before .before .before .before .before .before .before .before .before in
+    let the-loop = c .before .before .before .before .before .before .loop in
+    let the-loop-test = c .before .before .before .before .before .loop-test in
+    rows-ask (start .args .out .now) _ (start .args .starts .now) (start .args .heads .now) (start .args .weights .now) _ (start .pre) _ _ _ (the-loop .inv) _ _ (the-loop-test .taken) (c .before .before .before .wide .ensures) (c .before .wide2 .ensures)
 
 -- src/printing.rt:79:9
 add-u : tie.Need-add-u Inv-loop μ-loop
@@ -61,15 +67,25 @@ loop-less c = omega arith
 
 -- src/printing.rt:75:5
 loop-again : tie.Need-loop-again Inv-loop μ-loop
-loop-again c = rows-more (c .before .before .before .before .before .before .before .before .before .before .before .before .before .before .args .out .now) _ (c .before .before .before .before .before .before .before .before .before .before .before .before .before .before .args .starts .now) (c .before .before .before .before .before .before .before .before .before .before .before .before .before .before .args .heads .now) (c .before .before .before .before .before .before .before .before .before .before .before .before .before .before .args .weights .now) _ (c .before .before .before .before .before .before .before .before .before .before .before .before .before .before .pre) _ _ _ (c .before .before .before .before .before .before .before .before .before .loop .inv) _ _ _ _ (c .before .before .before .before .before .before .before .before .loop-test .taken) (c .before .before .before .before .before .before .wide .ensures) (c .before .before .before .before .wide2 .ensures) (c .before .before .write-row .ensures)
+loop-again c =
+    let start = c .before .before .before .before .before .before .before .before .before .before .before .before .before .before in
+    let the-loop = c .before .before .before .before .before .before .before .before .before .loop in
+    let the-loop-test = c .before .before .before .before .before .before .before .before .loop-test in
+    let the-wide = c .before .before .before .before .before .before .wide in
+    let the-wide2 = c .before .before .before .before .wide2 in
+    rows-more (start .args .out .now) _ (start .args .starts .now) (start .args .heads .now) (start .args .weights .now) _ (start .pre) _ _ _ (the-loop .inv) _ _ _ _ (the-loop-test .taken) (the-wide .ensures) (the-wide2 .ensures) (c .before .before .write-row .ensures)
 
 -- src/printing.rt:62:1
 same-length : tie.Need-same-length Inv-loop μ-loop
-same-length c = rows-kept (c .before .before .before .before .before .before .args .out .now) _ (c .before .before .before .before .before .before .args .starts .now) (c .before .before .before .before .before .before .args .heads .now) (c .before .before .before .before .before .before .args .weights .now) _ (c .before .before .before .before .before .before .pre) _ _ _ (c .before .loop .inv)
+same-length c =
+    let start = c .before .before .before .before .before .before in
+    rows-kept (start .args .out .now) _ (start .args .starts .now) (start .args .heads .now) (start .args .weights .now) _ (start .pre) _ _ _ (c .before .loop .inv)
 
 -- src/printing.rt:62:1
 returns : tie.Need-returns Inv-loop μ-loop
-returns c = rows-end (c .before .before .before .before .before .before .args .out .now) _ (c .before .before .before .before .before .before .args .starts .now) (c .before .before .before .before .before .before .args .heads .now) (c .before .before .before .before .before .before .args .weights .now) _ (c .before .before .before .before .before .before .pre) _ _ _ (c .before .loop .inv) (c .loop-test .left)
+returns c =
+    let start = c .before .before .before .before .before .before in
+    rows-end (start .args .out .now) _ (start .args .starts .now) (start .args .heads .now) (start .args .weights .now) _ (start .pre) _ _ _ (c .before .loop .inv) (c .loop-test .left)
 
 pub write-arcs-spec : {M : Type 1} → statement M
 write-arcs-spec =

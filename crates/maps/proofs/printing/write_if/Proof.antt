@@ -27,7 +27,9 @@ returns c = point-yes _ _ _ _ _ _ (c .before .before .before .before .if1 .taken
 
 -- src/printing.rt:14:1
 returns-2 : tie.Need-returns-2
-returns-2 c = point-no _ _ (getD (c .before .before .before .before .args .set .now) (c .before .before .before .before .args .v) 0) (c .before .before .before .before .args .v) (omega (arith, c .before .before .before .before .pre .1)) (ne-eqb _ _ (c .if1 .left))
+returns-2 c =
+    let start = c .before .before .before .before in
+    point-no _ _ (getD (start .args .set .now) (start .args .v) 0) (start .args .v) (omega (arith, start .pre .1)) (ne-eqb _ _ (c .if1 .left))
 
 pub write-if-spec : {M : Type 1} → statement M
 write-if-spec =

@@ -21,7 +21,9 @@ loop-holds c = points-none (c .before .before .args .out .now) _ (c .before .bef
 
 -- src/printing.rt:33:9
 write-if-requires : tie.Need-write-if-requires Inv-loop μ-loop
-write-if-requires c κs = (c .before .loop-test .taken, points-room (c .before .before .before .before .before .args .out .now) _ (c .before .before .before .before .before .args .set .now) (c .before .before .before .before .before .pre) _ _ _ (c .before .before .loop .inv) (c .before .loop-test .taken))
+write-if-requires c κs =
+    let start = c .before .before .before .before .before in
+    (c .before .loop-test .taken, points-room (start .args .out .now) _ (start .args .set .now) (start .pre) _ _ _ (c .before .before .loop .inv) (c .before .loop-test .taken))
 
 -- src/printing.rt:34:9
 add-v : tie.Need-add-v Inv-loop μ-loop
@@ -33,15 +35,23 @@ loop-less c = omega arith
 
 -- src/printing.rt:32:5
 loop-again : tie.Need-loop-again Inv-loop μ-loop
-loop-again c = points-more (c .before .before .before .before .before .before .before .before .args .out .now) _ (c .before .before .before .before .before .before .before .before .args .set .now) (c .before .before .before .before .before .before .before .before .pre) _ _ _ (c .before .before .before .before .before .loop .inv) _ _ (c .before .before .before .before .loop-test .taken) (c .before .before .write-if .ensures)
+loop-again c =
+    let start = c .before .before .before .before .before .before .before .before in
+    let the-loop = c .before .before .before .before .before .loop in
+    let the-loop-test = c .before .before .before .before .loop-test in
+    points-more (start .args .out .now) _ (start .args .set .now) (start .pre) _ _ _ (the-loop .inv) _ _ (the-loop-test .taken) (c .before .before .write-if .ensures)
 
 -- src/printing.rt:26:1
 same-length : tie.Need-same-length Inv-loop μ-loop
-same-length c = points-long (c .before .before .before .before .args .out .now) _ (c .before .before .before .before .args .set .now) (c .before .before .before .before .pre) _ _ _ (c .before .loop .inv)
+same-length c =
+    let start = c .before .before .before .before in
+    points-long (start .args .out .now) _ (start .args .set .now) (start .pre) _ _ _ (c .before .loop .inv)
 
 -- src/printing.rt:26:1
 returns : tie.Need-returns Inv-loop μ-loop
-returns c = points-end (c .before .before .before .before .args .out .now) _ (c .before .before .before .before .args .set .now) (c .before .before .before .before .pre) _ _ _ (c .before .loop .inv) (c .loop-test .left)
+returns c =
+    let start = c .before .before .before .before in
+    points-end (start .args .out .now) _ (start .args .set .now) (start .pre) _ _ _ (c .before .loop .inv) (c .loop-test .left)
 
 pub write-points-spec : {M : Type 1} → statement M
 write-points-spec =

@@ -36,7 +36,10 @@ shared-slice-read-write-arc-2 c = omega (arith, c .before .before .before .loop-
 
 -- src/printing.rt:55:9
 write-arc-requires : tie.Need-write-arc-requires Inv-loop μ-loop
-write-arc-requires c κs = row-room (c .before .before .before .before .before .before .before .before .args .out .now) _ (c .before .before .before .before .before .before .before .before .args .heads .now) (c .before .before .before .before .before .before .before .before .args .weights .now) _ _ (c .before .before .before .before .before .before .before .before .args .to) (c .before .before .before .before .before .before .before .before .pre .3) _ _ _ (c .before .before .before .before .loop .inv .0) (c .before .before .before .loop-test .taken)
+write-arc-requires c κs =
+    let start = c .before .before .before .before .before .before .before .before in
+    let the-loop = c .before .before .before .before .loop in
+    row-room (start .args .out .now) _ (start .args .heads .now) (start .args .weights .now) _ _ (start .args .to) (start .pre .3) _ _ _ (the-loop .inv .0) (c .before .before .before .loop-test .taken)
 
 -- src/printing.rt:56:9
 add-p : tie.Need-add-p Inv-loop μ-loop
@@ -48,15 +51,23 @@ loop-less c = omega arith
 
 -- src/printing.rt:54:5
 loop-again : tie.Need-loop-again Inv-loop μ-loop
-loop-again c = (row-more (c .before .before .before .before .before .before .before .before .before .before .before .args .out .now) _ (c .before .before .before .before .before .before .before .before .before .before .before .args .heads .now) (c .before .before .before .before .before .before .before .before .before .before .before .args .weights .now) _ _ (c .before .before .before .before .before .before .before .before .before .before .before .args .to) (c .before .before .before .before .before .before .before .before .before .before .before .pre .3) _ _ _ (c .before .before .before .before .before .before .before .loop .inv .0) _ _ (c .before .before .before .before .before .before .loop-test .taken) (c .before .before .write-arc .ensures), omega (arith, c .before .before .before .before .before .before .loop-test .taken))
+loop-again c =
+    let start = c .before .before .before .before .before .before .before .before .before .before .before in
+    let the-loop = c .before .before .before .before .before .before .before .loop in
+    let the-loop-test = c .before .before .before .before .before .before .loop-test in
+    (row-more (start .args .out .now) _ (start .args .heads .now) (start .args .weights .now) _ _ (start .args .to) (start .pre .3) _ _ _ (the-loop .inv .0) _ _ (the-loop-test .taken) (c .before .before .write-arc .ensures), omega (arith, the-loop-test .taken))
 
 -- src/printing.rt:40:1
 same-length : tie.Need-same-length Inv-loop μ-loop
-same-length c = row-kept (c .before .before .before .before .before .args .out .now) _ (c .before .before .before .before .before .args .heads .now) (c .before .before .before .before .before .args .weights .now) _ _ (c .before .before .before .before .before .args .to) (c .before .before .before .before .before .pre .3) _ _ _ (c .before .loop .inv .0)
+same-length c =
+    let start = c .before .before .before .before .before in
+    row-kept (start .args .out .now) _ (start .args .heads .now) (start .args .weights .now) _ _ (start .args .to) (start .pre .3) _ _ _ (c .before .loop .inv .0)
 
 -- src/printing.rt:40:1
 returns : tie.Need-returns Inv-loop μ-loop
-returns c = row-end (c .before .before .before .before .before .args .out .now) _ (c .before .before .before .before .before .args .heads .now) (c .before .before .before .before .before .args .weights .now) _ _ (c .before .before .before .before .before .args .to) (c .before .before .before .before .before .pre .3) _ _ _ (c .before .loop .inv .0) (c .loop-test .left) (c .before .loop .inv .1)
+returns c =
+    let start = c .before .before .before .before .before in
+    row-end (start .args .out .now) _ (start .args .heads .now) (start .args .weights .now) _ _ (start .args .to) (start .pre .3) _ _ _ (c .before .loop .inv .0) (c .loop-test .left) (c .before .loop .inv .1)
 
 pub write-row-spec : {M : Type 1} → statement M
 write-row-spec =

@@ -29,7 +29,12 @@ returns-6 : tie.Need-returns-6
 returns-6 c = refuses (inr (inr (inr (inr (inr (inl (c .if6 .taken)))))))
 
 returns-7 : tie.Need-returns-7
-returns-7 c = passes (⊎-elim (λ d. d (c .before .before .before .before .before .before .before .before .before .if1 .left)) (⊎-elim (λ d. d (c .before .before .before .before .before .before .before .before .if2 .left)) (⊎-elim (λ d. d (c .before .before .before .before .before .before .if3 .left)) (⊎-elim (λ d. d (c .before .before .before .before .if4 .left)) (⊎-elim (λ d. d (c .before .before .if5 .left)) (⊎-elim (λ d. d (c .if6 .left)) (λ z. z)))))))
+returns-7 c =
+    let the-if1 = c .before .before .before .before .before .before .before .before .before .if1 in
+    let the-if2 = c .before .before .before .before .before .before .before .before .if2 in
+    let the-if3 = c .before .before .before .before .before .before .if3 in
+    let the-if4 = c .before .before .before .before .if4 in
+    passes (⊎-elim (λ d. d (the-if1 .left)) (⊎-elim (λ d. d (the-if2 .left)) (⊎-elim (λ d. d (the-if3 .left)) (⊎-elim (λ d. d (the-if4 .left)) (⊎-elim (λ d. d (c .before .before .if5 .left)) (⊎-elim (λ d. d (c .if6 .left)) (λ z. z)))))))
 
 pub check-lengths-spec : {M : Type 1} → statement M
 check-lengths-spec =

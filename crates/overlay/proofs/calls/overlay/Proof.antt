@@ -20,7 +20,11 @@ node-count-requires : tie.Need-node-count-requires
 node-count-requires c κs = search needs
 
 check-lengths-requires : tie.Need-check-lengths-requires
-check-lengths-requires c κs = omega (arith, c .before .before .before .before .before .before .before .node-count .ensures, few-nodes _ _ _ _ _ (c .before .before .before .before .before .before .before .before .before .before .check-road-and-set .ensures) (c .before .before .before .before .before .before .before .before .enum-told .given .1))
+check-lengths-requires c κs =
+    let the-check-road-and-set = c .before .before .before .before .before .before .before .before .before .before .check-road-and-set in
+    let the-enum-told = c .before .before .before .before .before .before .before .before .enum-told in
+    let the-node-count = c .before .before .before .before .before .before .before .node-count in
+    omega (arith, the-node-count .ensures, few-nodes _ _ _ _ _ (the-check-road-and-set .ensures) (the-enum-told .given .1))
 
 enum-known-lengths : tie.Need-enum-known-lengths
 enum-known-lengths c = search needs
@@ -47,13 +51,23 @@ same-length-7 : tie.Need-same-length-7
 same-length-7 c = search needs
 
 returns-2 : tie.Need-returns-2
-returns-2 c = refused-late _ _ _ _ _ _ (c .before .before .before .before .before .before .before .before .before .before .before .before .before .before .check-road-and-set .ensures) (c .before .before .before .before .before .before .before .before .before .before .before .before .enum-told .given .1) _ (rw (c .before .before .before .before .before .before .before .before .before .before .before .node-count .ensures) at (c .before .before .before .check-lengths .ensures)) _ (c .before .lengths .given .1)
+returns-2 c =
+    let the-check-road-and-set = c .before .before .before .before .before .before .before .before .before .before .before .before .before .before .check-road-and-set in
+    let the-enum-told = c .before .before .before .before .before .before .before .before .before .before .before .before .enum-told in
+    let the-node-count = c .before .before .before .before .before .before .before .before .before .before .before .node-count in
+    refused-late _ _ _ _ _ _ (the-check-road-and-set .ensures) (the-enum-told .given .1) _ (rw (the-node-count .ensures) at (c .before .before .before .check-lengths .ensures)) _ (c .before .lengths .given .1)
 
 enum-told-2 : tie.Need-enum-told-2
 enum-told-2 c = search needs
 
 build-requires : tie.Need-build-requires
-build-requires c κs = ready _ _ _ _ _ _ (c .before .before .before .before .before .before .before .before .before .before .before .before .before .before .before .before .before .before .before .before .check-road-and-set .ensures) (c .before .before .before .before .before .before .before .before .before .before .before .before .before .before .before .before .before .before .enum-told .given .1) _ (rw (c .before .before .before .before .before .before .before .before .before .before .before .before .before .before .before .before .before .node-count .ensures) at (c .before .before .before .before .before .before .before .before .before .check-lengths .ensures)) (c .before .before .before .before .before .before .before .enum-told2 .given .1)
+build-requires c κs =
+    let the-check-road-and-set = c .before .before .before .before .before .before .before .before .before .before .before .before .before .before .before .before .before .before .before .before .check-road-and-set in
+    let the-enum-told = c .before .before .before .before .before .before .before .before .before .before .before .before .before .before .before .before .before .before .enum-told in
+    let the-node-count = c .before .before .before .before .before .before .before .before .before .before .before .before .before .before .before .before .before .node-count in
+    let the-check-lengths = c .before .before .before .before .before .before .before .before .before .check-lengths in
+    let the-enum-told2 = c .before .before .before .before .before .before .before .enum-told2 in
+    ready _ _ _ _ _ _ (the-check-road-and-set .ensures) (the-enum-told .given .1) _ (rw (the-node-count .ensures) at (the-check-lengths .ensures)) (the-enum-told2 .given .1)
 
 same-length-8 : tie.Need-same-length-8
 same-length-8 c = search needs

@@ -39,7 +39,10 @@ loop-holds : tie.Need-loop-holds Inv-loop μ-loop
 loop-holds c = (rows-none _ _ _, omega arith)
 
 check-row-requires : tie.Need-check-row-requires Inv-loop μ-loop
-check-row-requires c κs = (graph-sound _ _ _ _ (rw (c .before .before .before .before .before .before .overlay-limits .ensures) at (c .before .before .before .before .before .check-graph .ensures)) (c .before .before .before .enum-told .given .1), (omega (arith, c .before .before .if1 .left, graph-sound _ _ _ _ (rw (c .before .before .before .before .before .before .overlay-limits .ensures) at (c .before .before .before .before .before .check-graph .ensures)) (c .before .before .before .enum-told .given .1) .sized .least), c .loop-test .taken))
+check-row-requires c κs =
+    let the-overlay-limits = c .before .before .before .before .before .before .overlay-limits in
+    let the-check-graph = c .before .before .before .before .before .check-graph in
+    (graph-sound _ _ _ _ (rw (the-overlay-limits .ensures) at (the-check-graph .ensures)) (c .before .before .before .enum-told .given .1), (omega (arith, c .before .before .if1 .left, graph-sound _ _ _ _ (rw (the-overlay-limits .ensures) at (the-check-graph .ensures)) (c .before .before .before .enum-told .given .1) .sized .least), c .loop-test .taken))
 
 enum-told-3 : tie.Need-enum-told-3 Inv-loop μ-loop
 enum-told-3 c = search needs
@@ -60,7 +63,10 @@ loop-again : tie.Need-loop-again Inv-loop μ-loop
 loop-again c = (rows-more _ _ _ _ (c .before .before .before .before .loop .inv .0) (c .before .before .check-row .ensures .passed (c .enum-told3 .given .1)), omega (arith, c .before .before .before .loop-test .taken))
 
 returns-4 : tie.Need-returns-4 Inv-loop μ-loop
-returns-4 c = passes (all-in _ _ _ _ _ (rw (c .before .before .before .before .before .before .overlay-limits .ensures) at (c .before .before .before .before .before .check-graph .ensures)) (c .before .before .before .enum-told .given .1) _ (omega (arith, c .before .before .if1 .left, graph-sound _ _ _ _ (rw (c .before .before .before .before .before .before .overlay-limits .ensures) at (c .before .before .before .before .before .check-graph .ensures)) (c .before .before .before .enum-told .given .1) .sized .least)) (search needs) (c .before .loop .inv .0))
+returns-4 c =
+    let the-overlay-limits = c .before .before .before .before .before .before .overlay-limits in
+    let the-check-graph = c .before .before .before .before .before .check-graph in
+    passes (all-in _ _ _ _ _ (rw (the-overlay-limits .ensures) at (the-check-graph .ensures)) (c .before .before .before .enum-told .given .1) _ (omega (arith, c .before .before .if1 .left, graph-sound _ _ _ _ (rw (the-overlay-limits .ensures) at (the-check-graph .ensures)) (c .before .before .before .enum-told .given .1) .sized .least)) (search needs) (c .before .loop .inv .0))
 
 pub check-overlay-spec : {M : Type 1} → statement M
 check-overlay-spec =

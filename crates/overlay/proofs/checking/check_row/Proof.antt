@@ -44,22 +44,42 @@ shared-slice-read-if1 : tie.Need-shared-slice-read-if1 Inv-loop μ-loop
 shared-slice-read-if1 c = c .before .before .before .before .before .before .before .before .before .before .before .pre .1 .1
 
 returns : tie.Need-returns Inv-loop μ-loop
-returns c = row-refused _ _ _ _ _ (tail-outside _ _ _ _ (c .before .before .before .before .before .before .before .before .before .before .before .before .pre .0) _ _ (record { from = c .before .before .before .loop .inv .1; below = omega (arith, c .before .before .loop-test .taken, c .before .before .before .before .before .before .wide .ensures) }) (c .if1 .taken))
+returns c =
+    let start = c .before .before .before .before .before .before .before .before .before .before .before .before in
+    let the-wide = c .before .before .before .before .before .before .wide in
+    row-refused _ _ _ _ _ (tail-outside _ _ _ _ (start .pre .0) _ _ (record { from = c .before .before .before .loop .inv .1; below = omega (arith, c .before .before .loop-test .taken, the-wide .ensures) }) (c .if1 .taken))
 
 mul-wide-3 : tie.Need-mul-wide-3 Inv-loop μ-loop
-mul-wide-3 c = scaled-fits _ _ 4 (owned-listed _ _ (c .before .before .before .before .before .before .before .before .before .before .before .before .pre .0 .rising) _ _ (record { from = c .before .before .before .loop .inv .1; below = omega (arith, c .before .before .loop-test .taken, c .before .before .before .before .before .before .wide .ensures) })) (search needs)
+mul-wide-3 c =
+    let start = c .before .before .before .before .before .before .before .before .before .before .before .before in
+    let the-wide = c .before .before .before .before .before .before .wide in
+    scaled-fits _ _ 4 (owned-listed _ _ (start .pre .0 .rising) _ _ (record { from = c .before .before .before .loop .inv .1; below = omega (arith, c .before .before .loop-test .taken, the-wide .ensures) })) (search needs)
 
 shared-slice-read-wide-3 : tie.Need-shared-slice-read-wide-3 Inv-loop μ-loop
-shared-slice-read-wide-3 c = owned-listed _ _ (c .before .before .before .before .before .before .before .before .before .before .before .before .before .pre .0 .rising) _ _ (record { from = c .before .before .before .before .loop .inv .1; below = omega (arith, c .before .before .before .loop-test .taken, c .before .before .before .before .before .before .before .wide .ensures) })
+shared-slice-read-wide-3 c =
+    let start = c .before .before .before .before .before .before .before .before .before .before .before .before .before in
+    let the-wide = c .before .before .before .before .before .before .before .wide in
+    let the-loop = c .before .before .before .before .loop in
+    owned-listed _ _ (start .pre .0 .rising) _ _ (record { from = the-loop .inv .1; below = omega (arith, c .before .before .before .loop-test .taken, the-wide .ensures) })
 
 wide-requires-3 : tie.Need-wide-requires-3 Inv-loop μ-loop
 wide-requires-3 c κs = search needs
 
 shared-slice-read-if2 : tie.Need-shared-slice-read-if2 Inv-loop μ-loop
-shared-slice-read-if2 c = omega (arith, c .before .before .before .before .before .before .before .before .before .before .before .before .before .before .before .pre .0 .inside _ (owned-listed _ _ (c .before .before .before .before .before .before .before .before .before .before .before .before .before .before .before .pre .0 .rising) _ _ (record { from = c .before .before .before .before .before .before .loop .inv .1; below = omega (arith, c .before .before .before .before .before .loop-test .taken, c .before .before .before .before .before .before .before .before .before .wide .ensures) })), c .before .wide3 .ensures, c .before .before .before .before .before .before .before .before .before .before .before .before .before .before .before .pre .1 .0)
+shared-slice-read-if2 c =
+    let start = c .before .before .before .before .before .before .before .before .before .before .before .before .before .before .before in
+    let the-wide = c .before .before .before .before .before .before .before .before .before .wide in
+    let the-loop = c .before .before .before .before .before .before .loop in
+    let the-loop-test = c .before .before .before .before .before .loop-test in
+    omega (arith, start .pre .0 .inside _ (owned-listed _ _ (start .pre .0 .rising) _ _ (record { from = the-loop .inv .1; below = omega (arith, the-loop-test .taken, the-wide .ensures) })), c .before .wide3 .ensures, start .pre .1 .0)
 
 returns-2 : tie.Need-returns-2 Inv-loop μ-loop
-returns-2 c = row-refused _ _ _ _ _ (head-outside _ _ _ _ (c .before .before .before .before .before .before .before .before .before .before .before .before .before .before .before .before .pre .0) _ _ (record { from = c .before .before .before .before .before .before .before .loop .inv .1; below = omega (arith, c .before .before .before .before .before .before .loop-test .taken, c .before .before .before .before .before .before .before .before .before .before .wide .ensures) }) (λ i. c .if2 .taken (ap (λ (k : ℕ). getD (c .before .before .before .before .before .before .before .before .before .before .before .before .before .before .before .before .args .set .now) k 0) (c .before .before .wide3 .ensures) ∙ i)))
+returns-2 c =
+    let start = c .before .before .before .before .before .before .before .before .before .before .before .before .before .before .before .before in
+    let the-wide = c .before .before .before .before .before .before .before .before .before .before .wide in
+    let the-loop = c .before .before .before .before .before .before .before .loop in
+    let the-loop-test = c .before .before .before .before .before .before .loop-test in
+    row-refused _ _ _ _ _ (head-outside _ _ _ _ (start .pre .0) _ _ (record { from = the-loop .inv .1; below = omega (arith, the-loop-test .taken, the-wide .ensures) }) (λ i. c .if2 .taken (ap (λ (k : ℕ). getD (start .args .set .now) k 0) (c .before .before .wide3 .ensures) ∙ i)))
 
 add-p : tie.Need-add-p Inv-loop μ-loop
 add-p c = search needs
@@ -68,7 +88,11 @@ loop-less : tie.Need-loop-less Inv-loop μ-loop
 loop-less c = search needs
 
 loop-again : tie.Need-loop-again Inv-loop μ-loop
-loop-again c = (ends-more _ _ _ _ _ (c .before .before .before .before .before .before .before .loop .inv .0) (c .before .before .before .before .if1 .left) (sym (ap (λ (k : ℕ). getD (c .before .before .before .before .before .before .before .before .before .before .before .before .before .before .before .before .args .set .now) k 0) (c .before .before .wide3 .ensures)) ∙ c .if2 .left), omega (arith, c .before .before .before .before .before .before .before .loop .inv .1))
+loop-again c =
+    let start = c .before .before .before .before .before .before .before .before .before .before .before .before .before .before .before .before in
+    let the-loop = c .before .before .before .before .before .before .before .loop in
+    let the-if1 = c .before .before .before .before .if1 in
+    (ends-more _ _ _ _ _ (the-loop .inv .0) (the-if1 .left) (sym (ap (λ (k : ℕ). getD (start .args .set .now) k 0) (c .before .before .wide3 .ensures)) ∙ c .if2 .left), omega (arith, the-loop .inv .1))
 
 returns-3 : tie.Need-returns-3 Inv-loop μ-loop
 returns-3 c = row-passes _ _ _ _ _ (ends-all _ _ _ _ _ _ (c .before .loop .inv .0) (c .before .before .before .before .wide .ensures) (search needs))

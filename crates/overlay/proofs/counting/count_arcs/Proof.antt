@@ -19,7 +19,10 @@ loop-holds : tie.Need-loop-holds Inv-loop μ-loop
 loop-holds c = (Arcs.none, omega arith, refl, refl, refl)
 
 count-tail-requires : tie.Need-count-tail-requires Inv-loop μ-loop
-count-tail-requires c κs = (searching-again _ _ _ _ _ _ _ (c .before .before .before .before .before .before .before .before .before .before .before .before .pre) _ _ _ (c .before .before .before .before .loop .inv .2) (c .before .before .before .before .loop .inv .3) (c .before .before .before .before .loop .inv .4), (omega (arith, c .before .before .before .loop-test .taken, c .before .before .before .before .before .before .before .before .before .before .before .before .pre .bytes), c .before .before .before .before .loop .inv .0))
+count-tail-requires c κs =
+    let start = c .before .before .before .before .before .before .before .before .before .before .before .before in
+    let the-loop = c .before .before .before .before .loop in
+    (searching-again _ _ _ _ _ _ _ (start .pre) _ _ _ (the-loop .inv .2) (the-loop .inv .3) (the-loop .inv .4), (omega (arith, c .before .before .before .loop-test .taken, start .pre .bytes), the-loop .inv .0))
 
 add-tail : tie.Need-add-tail Inv-loop μ-loop
 add-tail c = search needs
@@ -28,7 +31,11 @@ loop-less : tie.Need-loop-less Inv-loop μ-loop
 loop-less c = search needs
 
 loop-again : tie.Need-loop-again Inv-loop μ-loop
-loop-again c = (c .before .before .before .before .before .before .count-tail .ensures .0, omega (arith, c .before .before .before .before .before .before .before .before .before .before .loop-test .taken), c .before .before .before .before .before .before .count-tail .kept .1 .1 .1 .1 .0 ∙ c .before .before .before .before .before .before .before .before .before .before .before .loop .inv .2, c .before .before .before .before .before .before .count-tail .ensures .1 .0 ∙ c .before .before .before .before .before .before .before .before .before .before .before .loop .inv .3, c .before .before .before .before .before .before .count-tail .ensures .1 .1 ∙ c .before .before .before .before .before .before .before .before .before .before .before .loop .inv .4)
+loop-again c =
+    let the-loop = c .before .before .before .before .before .before .before .before .before .before .before .loop in
+    let the-loop-test = c .before .before .before .before .before .before .before .before .before .before .loop-test in
+    let the-count-tail = c .before .before .before .before .before .before .count-tail in
+    (the-count-tail .ensures .0, omega (arith, the-loop-test .taken), the-count-tail .kept .1 .1 .1 .1 .0 ∙ the-loop .inv .2, the-count-tail .ensures .1 .0 ∙ the-loop .inv .3, the-count-tail .ensures .1 .1 ∙ the-loop .inv .4)
 
 same-length : tie.Need-same-length Inv-loop μ-loop
 same-length c = c .before .loop .inv .2
@@ -40,7 +47,9 @@ same-length-3 : tie.Need-same-length-3 Inv-loop μ-loop
 same-length-3 c = omega (arith, ap length (c .before .loop .inv .4))
 
 returns : tie.Need-returns Inv-loop μ-loop
-returns c = (arcs-all _ _ _ _ _ (c .before .loop .inv .0) (omega (arith, c .before .loop .inv .1, c .before .before .before .before .before .before .before .before .before .pre .bytes)) (omega (arith, c .loop-test .left, c .before .before .before .before .before .before .before .before .before .pre .bytes)), (c .before .loop .inv .3, c .before .loop .inv .4))
+returns c =
+    let start = c .before .before .before .before .before .before .before .before .before in
+    (arcs-all _ _ _ _ _ (c .before .loop .inv .0) (omega (arith, c .before .loop .inv .1, start .pre .bytes)) (omega (arith, c .loop-test .left, start .pre .bytes)), (c .before .loop .inv .3, c .before .loop .inv .4))
 
 pub count-arcs-spec : {M : Type 1} → statement M
 count-arcs-spec =

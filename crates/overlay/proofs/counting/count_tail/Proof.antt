@@ -9,16 +9,27 @@ shared-slice-read-if1 : tie.Need-shared-slice-read-if1
 shared-slice-read-if1 c = search needs
 
 returns : tie.Need-returns
-returns c = (tail-skipped _ _ _ _ _ _ _ (c .before .before .before .before .before .before .before .before .before .pre .0) _ (c .before .before .before .before .before .before .before .before .before .pre .1 .0) _ (c .before .before .before .before .before .before .before .before .before .pre .1 .1) (c .if1 .taken), (refl, refl))
+returns c =
+    let start = c .before .before .before .before .before .before .before .before .before in
+    (tail-skipped _ _ _ _ _ _ _ (start .pre .0) _ (start .pre .1 .0) _ (start .pre .1 .1) (c .if1 .taken), (refl, refl))
 
 search-requires : tie.Need-search-requires
-search-requires c κs = asks-of _ _ _ _ _ _ _ (c .before .before .before .before .before .before .before .before .before .before .before .before .pre .0) _ (c .before .before .before .before .before .before .before .before .before .before .before .before .pre .1 .0)
+search-requires c κs =
+    let start = c .before .before .before .before .before .before .before .before .before .before .before .before in
+    asks-of _ _ _ _ _ _ _ (start .pre .0) _ (start .pre .1 .0)
 
 count-row-requires : tie.Need-count-row-requires
-count-row-requires c κs = omega (arith, c .before .before .before .before .before .before .before .search .kept .1 .1 .1 .1 .1 .0, c .before .before .before .before .before .before .before .before .before .before .before .before .before .before .before .before .before .before .before .before .pre .0 .room, c .before .before .before .before .before .before .before .before .before .before .before .before .before .before .before .before .before .before .before .before .pre .0 .bytes)
+count-row-requires c κs =
+    let start = c .before .before .before .before .before .before .before .before .before .before .before .before .before .before .before .before .before .before .before .before in
+    let the-search = c .before .before .before .before .before .before .before .search in
+    omega (arith, the-search .kept .1 .1 .1 .1 .1 .0, start .pre .0 .room, start .pre .0 .bytes)
 
 add-t23 : tie.Need-add-t23
-add-t23 c = omega (arith, tail-fits _ _ _ _ _ _ _ (c .before .before .before .before .before .before .before .before .before .before .before .before .before .before .before .before .before .before .before .before .before .before .before .pre .0) _ (c .before .before .before .before .before .before .before .before .before .before .before .before .before .before .before .before .before .before .before .before .before .before .before .pre .1 .0) _ (c .before .before .before .before .before .before .before .before .before .before .before .before .before .before .before .before .before .before .before .before .before .before .before .pre .1 .1) (c .before .before .before .before .before .before .before .before .before .before .before .before .before .before .if1 .left) _ (c .before .before .before .before .before .before .before .before .before .before .search .ensures .0) _ (c .before .before .count-row .ensures))
+add-t23 c =
+    let start = c .before .before .before .before .before .before .before .before .before .before .before .before .before .before .before .before .before .before .before .before .before .before .before in
+    let the-if1 = c .before .before .before .before .before .before .before .before .before .before .before .before .before .before .if1 in
+    let the-search = c .before .before .before .before .before .before .before .before .before .before .search in
+    omega (arith, tail-fits _ _ _ _ _ _ _ (start .pre .0) _ (start .pre .1 .0) _ (start .pre .1 .1) (the-if1 .left) _ (the-search .ensures .0) _ (c .before .before .count-row .ensures))
 
 same-length : tie.Need-same-length
 same-length c = search needs
@@ -30,7 +41,11 @@ same-length-3 : tie.Need-same-length-3
 same-length-3 c = search needs
 
 returns-2 : tie.Need-returns-2
-returns-2 c = (tail-counted _ _ _ _ _ _ _ (c .before .before .before .before .before .before .before .before .before .before .before .before .before .before .before .before .before .before .before .before .before .before .before .pre .0) _ (c .before .before .before .before .before .before .before .before .before .before .before .before .before .before .before .before .before .before .before .before .before .before .before .pre .1 .0) _ (c .before .before .before .before .before .before .before .before .before .before .before .before .before .before .before .before .before .before .before .before .before .before .before .pre .1 .1) (c .before .before .before .before .before .before .before .before .before .before .before .before .before .before .if1 .left) _ (c .before .before .before .before .before .before .before .before .before .before .search .ensures .0) _ (c .before .before .count-row .ensures), (c .before .before .before .before .before .before .before .before .before .before .search .ensures .1 .0, c .before .before .before .before .before .before .before .before .before .before .search .ensures .1 .1))
+returns-2 c =
+    let start = c .before .before .before .before .before .before .before .before .before .before .before .before .before .before .before .before .before .before .before .before .before .before .before in
+    let the-if1 = c .before .before .before .before .before .before .before .before .before .before .before .before .before .before .if1 in
+    let the-search = c .before .before .before .before .before .before .before .before .before .before .search in
+    (tail-counted _ _ _ _ _ _ _ (start .pre .0) _ (start .pre .1 .0) _ (start .pre .1 .1) (the-if1 .left) _ (the-search .ensures .0) _ (c .before .before .count-row .ensures), (the-search .ensures .1 .0, the-search .ensures .1 .1))
 
 pub count-tail-spec : {M : Type 1} → statement M
 count-tail-spec =

@@ -8,7 +8,9 @@ use Rattle.overlay.proofs.rows.write_arc.Statement.{statement}
 use Rattle.overlay.proofs.rows.write_arc.Tie as tie
 
 is-head-requires : tie.Need-is-head-requires
-is-head-requires c κs = (c .before .before .before .before .pre .node, c .before .before .before .before .pre .labelled)
+is-head-requires c κs =
+    let start = c .before .before .before .before in
+    (start .pre .node, start .pre .labelled)
 
 cast-heads : tie.Need-cast-heads
 cast-heads c = search needs
@@ -32,10 +34,14 @@ cast-weights : tie.Need-cast-weights
 cast-weights c = omega (arith, c .before .before .before .before .before .before .before .pre .fits .fits _ (c .before .before .is-head .ensures .yes (c .before .if1 .taken)))
 
 mul-weights-2 : tie.Need-mul-weights-2
-mul-weights-2 c = scaled-fits _ _ 4 (as-wide _ _ _ (c .before .before .before .before .before .before .before .pre .free (c .before .before .is-head .ensures .yes (c .before .if1 .taken))) (c .before .before .before .before .before .before .before .pre .alike)) (search needs)
+mul-weights-2 c =
+    let start = c .before .before .before .before .before .before .before in
+    scaled-fits _ _ 4 (as-wide _ _ _ (start .pre .free (c .before .before .is-head .ensures .yes (c .before .if1 .taken))) (start .pre .alike)) (search needs)
 
 slice-write-weights : tie.Need-slice-write-weights
-slice-write-weights c = omega (arith, c .before .before .before .before .before .before .before .pre .free (c .before .before .is-head .ensures .yes (c .before .if1 .taken)), c .before .before .before .before .before .before .before .pre .alike)
+slice-write-weights c =
+    let start = c .before .before .before .before .before .before .before in
+    omega (arith, start .pre .free (c .before .before .is-head .ensures .yes (c .before .if1 .taken)), start .pre .alike)
 
 add-t11 : tie.Need-add-t11
 add-t11 c = omega (arith, c .before .before .before .before .before .before .before .pre .free (c .before .before .is-head .ensures .yes (c .before .if1 .taken)))

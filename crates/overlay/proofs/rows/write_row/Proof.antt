@@ -18,7 +18,9 @@ loop-holds : tie.Need-loop-holds Inv-loop μ-loop
 loop-holds c = (wrote-none _ _ _ _ _, omega arith)
 
 write-arc-requires : tie.Need-write-arc-requires Inv-loop μ-loop
-write-arc-requires c κs = record { node = search needs; few = c .before .before .before .before .before .before .before .before .pre .1 .0; labelled = c .before .before .before .before .before .before .before .before .pre .0; fits = c .before .before .before .before .before .before .before .before .pre .1 .1 .1 .0; free = λ f. omega (arith, room-left _ _ _ _ _ _ (c .before .before .before .before .before .before .before .before .pre .1 .1 .1 .1) (c .before .before .loop-test .taken) (c .before .before .before .loop .inv .0 .number) f, c .before .before .before .loop .inv .0 .heads-long); alike = omega (arith, c .before .before .before .loop .inv .0 .heads-long, c .before .before .before .loop .inv .0 .weights-long, c .before .before .before .before .before .before .before .before .pre .1 .1 .0) }
+write-arc-requires c κs =
+    let start = c .before .before .before .before .before .before .before .before in
+    record { node = search needs; few = start .pre .1 .0; labelled = start .pre .0; fits = start .pre .1 .1 .1 .0; free = λ f. omega (arith, room-left _ _ _ _ _ _ (start .pre .1 .1 .1 .1) (c .before .before .loop-test .taken) (c .before .before .before .loop .inv .0 .number) f, c .before .before .before .loop .inv .0 .heads-long); alike = omega (arith, c .before .before .before .loop .inv .0 .heads-long, c .before .before .before .loop .inv .0 .weights-long, start .pre .1 .1 .0) }
 
 add-v : tie.Need-add-v Inv-loop μ-loop
 add-v c = search needs
@@ -27,7 +29,12 @@ loop-less : tie.Need-loop-less Inv-loop μ-loop
 loop-less c = search needs
 
 loop-again : tie.Need-loop-again Inv-loop μ-loop
-loop-again c = (wrote-more _ _ _ _ _ _ _ _ _ (c .before .before .before .before .before .before .before .before .loop .inv .0) _ _ _ (c .before .before .before .before .write-arc .ensures) (λ f. omega (arith, room-left _ _ _ _ _ _ (c .before .before .before .before .before .before .before .before .before .before .before .before .before .pre .1 .1 .1 .1) (c .before .before .before .before .before .before .before .loop-test .taken) (c .before .before .before .before .before .before .before .before .loop .inv .0 .number) f, c .before .before .before .before .before .before .before .before .loop .inv .0 .heads-long)) (omega (arith, c .before .before .before .before .before .before .before .before .loop .inv .0 .heads-long, c .before .before .before .before .before .before .before .before .loop .inv .0 .weights-long, c .before .before .before .before .before .before .before .before .before .before .before .before .before .pre .1 .1 .0)), omega arith)
+loop-again c =
+    let start = c .before .before .before .before .before .before .before .before .before .before .before .before .before in
+    let the-loop = c .before .before .before .before .before .before .before .before .loop in
+    let the-loop-test = c .before .before .before .before .before .before .before .loop-test in
+    let the-write-arc = c .before .before .before .before .write-arc in
+    (wrote-more _ _ _ _ _ _ _ _ _ (the-loop .inv .0) _ _ _ (the-write-arc .ensures) (λ f. omega (arith, room-left _ _ _ _ _ _ (start .pre .1 .1 .1 .1) (the-loop-test .taken) (the-loop .inv .0 .number) f, the-loop .inv .0 .heads-long)) (omega (arith, the-loop .inv .0 .heads-long, the-loop .inv .0 .weights-long, start .pre .1 .1 .0)), omega arith)
 
 same-length : tie.Need-same-length Inv-loop μ-loop
 same-length c = c .before .loop .inv .0 .heads-long

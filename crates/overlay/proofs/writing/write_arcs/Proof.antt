@@ -19,13 +19,23 @@ slice-write-over-starts : tie.Need-slice-write-over-starts Inv-loop μ-loop
 slice-write-over-starts c = omega (arith, c .before .before .before .before .before .before .before .before .before .before .pre .1 .1 .1 .0)
 
 loop-holds : tie.Need-loop-holds Inv-loop μ-loop
-loop-holds c = (building-none _ _ _ _ (c .before .before .before .before .before .before .before .before .before .before .args .over-starts .now) (c .before .before .before .before .before .before .before .before .before .before .pre .1 .1 .1 .0), omega arith, refl, refl, refl)
+loop-holds c =
+    let start = c .before .before .before .before .before .before .before .before .before .before in
+    (building-none _ _ _ _ (start .args .over-starts .now) (start .pre .1 .1 .1 .0), omega arith, refl, refl, refl)
 
 write-tail-requires : tie.Need-write-tail-requires Inv-loop μ-loop
-write-tail-requires c κs = (searching-again _ _ _ _ _ _ _ (c .before .before .before .before .before .before .before .before .before .before .before .before .before .before .before .before .before .pre .0) _ _ _ (c .before .before .before .before .before .before .loop .inv .2) (c .before .before .before .before .before .before .loop .inv .3) (c .before .before .before .before .before .before .loop .inv .4), (c .before .before .before .before .before .before .before .before .before .before .before .before .before .before .before .before .before .pre .1 .0, (enough-again _ _ _ _ (c .before .before .before .before .before .before .before .before .before .before .before .before .before .before .before .before .before .pre .1 .1 .0) (c .before .before .before .before .before .before .loop .inv .0 .heads-long), (omega (arith, c .before .before .before .before .before .before .loop .inv .0 .heads-long, c .before .before .before .before .before .before .loop .inv .0 .weights-long, c .before .before .before .before .before .before .before .before .before .before .before .before .before .before .before .before .before .pre .1 .1 .1 .1), (omega (arith, c .before .before .before .before .before .loop-test .taken, c .before .before .before .before .before .before .before .before .before .before .before .before .before .before .before .before .before .pre .0 .bytes), c .before .before .before .before .before .before .loop .inv .0 .counted)))))
+write-tail-requires c κs =
+    let start = c .before .before .before .before .before .before .before .before .before .before .before .before .before .before .before .before .before in
+    let the-loop = c .before .before .before .before .before .before .loop in
+    let the-loop-test = c .before .before .before .before .before .loop-test in
+    (searching-again _ _ _ _ _ _ _ (start .pre .0) _ _ _ (the-loop .inv .2) (the-loop .inv .3) (the-loop .inv .4), (start .pre .1 .0, (enough-again _ _ _ _ (start .pre .1 .1 .0) (the-loop .inv .0 .heads-long), (omega (arith, the-loop .inv .0 .heads-long, the-loop .inv .0 .weights-long, start .pre .1 .1 .1 .1), (omega (arith, the-loop-test .taken, start .pre .0 .bytes), the-loop .inv .0 .counted)))))
 
 cast-over-starts : tie.Need-cast-over-starts Inv-loop μ-loop
-cast-over-starts c = omega (arith, counts-fit _ _ _ _ _ _ _ (c .before .before .before .before .before .before .before .before .before .before .before .before .before .before .before .before .before .before .before .before .before .before .before .before .before .before .before .before .before .pre .0) _ _ (c .before .before .before .before .before .before .before .before .before .before .before .write-tail .ensures .0 .counted) (omega (arith, c .before .before .before .before .before .before .before .before .before .before .before .before .before .before .before .before .before .loop-test .taken, c .before .before .before .before .before .before .before .before .before .before .before .before .before .before .before .before .before .before .before .before .before .before .before .before .before .before .before .before .before .pre .0 .bytes)))
+cast-over-starts c =
+    let start = c .before .before .before .before .before .before .before .before .before .before .before .before .before .before .before .before .before .before .before .before .before .before .before .before .before .before .before .before .before in
+    let the-loop-test = c .before .before .before .before .before .before .before .before .before .before .before .before .before .before .before .before .before .loop-test in
+    let the-write-tail = c .before .before .before .before .before .before .before .before .before .before .before .write-tail in
+    omega (arith, counts-fit _ _ _ _ _ _ _ (start .pre .0) _ _ (the-write-tail .ensures .0 .counted) (omega (arith, the-loop-test .taken, start .pre .0 .bytes)))
 
 add-over-starts : tie.Need-add-over-starts Inv-loop μ-loop
 add-over-starts c = search needs
@@ -34,7 +44,11 @@ mul-over-starts : tie.Need-mul-over-starts Inv-loop μ-loop
 mul-over-starts c = search needs
 
 slice-write-over-starts-2 : tie.Need-slice-write-over-starts-2 Inv-loop μ-loop
-slice-write-over-starts-2 c = omega (arith, c .before .before .before .before .before .before .before .before .before .before .before .before .before .before .before .before .before .before .loop .inv .0 .long, c .before .before .before .before .before .before .before .before .before .before .before .before .before .before .before .before .before .loop-test .taken, c .before .before .before .before .before .before .before .before .before .before .before .before .before .before .before .before .before .before .before .before .before .before .before .before .before .before .before .before .before .pre .0 .bytes)
+slice-write-over-starts-2 c =
+    let start = c .before .before .before .before .before .before .before .before .before .before .before .before .before .before .before .before .before .before .before .before .before .before .before .before .before .before .before .before .before in
+    let the-loop = c .before .before .before .before .before .before .before .before .before .before .before .before .before .before .before .before .before .before .loop in
+    let the-loop-test = c .before .before .before .before .before .before .before .before .before .before .before .before .before .before .before .before .before .loop-test in
+    omega (arith, the-loop .inv .0 .long, the-loop-test .taken, start .pre .0 .bytes)
 
 add-tail : tie.Need-add-tail Inv-loop μ-loop
 add-tail c = search needs
@@ -43,7 +57,12 @@ loop-less : tie.Need-loop-less Inv-loop μ-loop
 loop-less c = search needs
 
 loop-again : tie.Need-loop-again Inv-loop μ-loop
-loop-again c = (building-more _ _ _ _ _ _ _ _ _ (c .before .before .before .before .before .before .before .before .before .before .before .before .before .before .before .before .before .before .loop .inv .0) (omega (arith, c .before .before .before .before .before .before .before .before .before .before .before .before .before .before .before .before .before .loop-test .taken, c .before .before .before .before .before .before .before .before .before .before .before .before .before .before .before .before .before .before .before .before .before .before .before .before .before .before .before .before .before .pre .0 .bytes)) _ _ _ _ (c .before .before .before .before .before .before .before .before .before .before .before .write-tail .ensures .0) refl, omega (arith, c .before .before .before .before .before .before .before .before .before .before .before .before .before .before .before .before .before .loop-test .taken), c .before .before .before .before .before .before .before .before .before .before .before .write-tail .kept .1 .1 .1 .1 .1 .1 .0 ∙ c .before .before .before .before .before .before .before .before .before .before .before .before .before .before .before .before .before .before .loop .inv .2, c .before .before .before .before .before .before .before .before .before .before .before .write-tail .ensures .1 .0 ∙ c .before .before .before .before .before .before .before .before .before .before .before .before .before .before .before .before .before .before .loop .inv .3, c .before .before .before .before .before .before .before .before .before .before .before .write-tail .ensures .1 .1 ∙ c .before .before .before .before .before .before .before .before .before .before .before .before .before .before .before .before .before .before .loop .inv .4)
+loop-again c =
+    let start = c .before .before .before .before .before .before .before .before .before .before .before .before .before .before .before .before .before .before .before .before .before .before .before .before .before .before .before .before .before in
+    let the-loop = c .before .before .before .before .before .before .before .before .before .before .before .before .before .before .before .before .before .before .loop in
+    let the-loop-test = c .before .before .before .before .before .before .before .before .before .before .before .before .before .before .before .before .before .loop-test in
+    let the-write-tail = c .before .before .before .before .before .before .before .before .before .before .before .write-tail in
+    (building-more _ _ _ _ _ _ _ _ _ (the-loop .inv .0) (omega (arith, the-loop-test .taken, start .pre .0 .bytes)) _ _ _ _ (the-write-tail .ensures .0) refl, omega (arith, the-loop-test .taken), the-write-tail .kept .1 .1 .1 .1 .1 .1 .0 ∙ the-loop .inv .2, the-write-tail .ensures .1 .0 ∙ the-loop .inv .3, the-write-tail .ensures .1 .1 ∙ the-loop .inv .4)
 
 same-length : tie.Need-same-length Inv-loop μ-loop
 same-length c = omega (arith, c .before .loop .inv .0 .long, c .before .before .before .before .before .before .before .before .before .before .before .before .pre .1 .1 .1 .0)
@@ -64,7 +83,9 @@ same-length-6 : tie.Need-same-length-6 Inv-loop μ-loop
 same-length-6 c = omega (arith, ap length (c .before .loop .inv .4))
 
 returns : tie.Need-returns Inv-loop μ-loop
-returns c = (building-all _ _ _ _ _ _ _ _ _ _ (c .before .loop .inv .0) (omega (arith, c .before .loop .inv .1, c .before .before .before .before .before .before .before .before .before .before .before .before .pre .0 .bytes)) (omega (arith, c .loop-test .left, c .before .before .before .before .before .before .before .before .before .before .before .before .pre .0 .bytes)), (c .before .loop .inv .3, c .before .loop .inv .4))
+returns c =
+    let start = c .before .before .before .before .before .before .before .before .before .before .before .before in
+    (building-all _ _ _ _ _ _ _ _ _ _ (c .before .loop .inv .0) (omega (arith, c .before .loop .inv .1, start .pre .0 .bytes)) (omega (arith, c .loop-test .left, start .pre .0 .bytes)), (c .before .loop .inv .3, c .before .loop .inv .4))
 
 pub write-arcs-spec : {M : Type 1} → statement M
 write-arcs-spec =

@@ -33,16 +33,27 @@ wide-requires-2 : tie.Need-wide-requires-2 Inv-loop μ-loop
 wide-requires-2 c κs = search needs
 
 loop-holds : tie.Need-loop-holds Inv-loop μ-loop
-loop-holds c = row-none _ _ _ _ _ (c .before .before .before .before .before .before .before .before .pre .0) (c .before .before .before .before .before .before .before .before .pre .1 .1) (c .before .before .wide .ensures) _ _ (c .wide2 .ensures)
+loop-holds c =
+    let start = c .before .before .before .before .before .before .before .before in
+    row-none _ _ _ _ _ (start .pre .0) (start .pre .1 .1) (c .before .before .wide .ensures) _ _ (c .wide2 .ensures)
 
 mul-size-of : tie.Need-mul-size-of Inv-loop μ-loop
-mul-size-of c = scaled-fits _ _ 4 (row-listed _ _ _ _ _ (c .before .before .before .before .before .before .before .before .before .before .pre .0) (c .before .before .before .before .before .before .before .before .before .before .pre .1 .1) (c .before .before .before .before .wide .ensures) _ (c .before .loop .inv) (c .loop-test .taken)) (search needs)
+mul-size-of c =
+    let start = c .before .before .before .before .before .before .before .before .before .before in
+    let the-wide = c .before .before .before .before .wide in
+    scaled-fits _ _ 4 (row-listed _ _ _ _ _ (start .pre .0) (start .pre .1 .1) (the-wide .ensures) _ (c .before .loop .inv) (c .loop-test .taken)) (search needs)
 
 shared-slice-read-size-of : tie.Need-shared-slice-read-size-of Inv-loop μ-loop
-shared-slice-read-size-of c = row-listed _ _ _ _ _ (c .before .before .before .before .before .before .before .before .before .before .before .pre .0) (c .before .before .before .before .before .before .before .before .before .before .before .pre .1 .1) (c .before .before .before .before .before .wide .ensures) _ (c .before .before .loop .inv) (c .before .loop-test .taken)
+shared-slice-read-size-of c =
+    let start = c .before .before .before .before .before .before .before .before .before .before .before in
+    let the-wide = c .before .before .before .before .before .wide in
+    row-listed _ _ _ _ _ (start .pre .0) (start .pre .1 .1) (the-wide .ensures) _ (c .before .before .loop .inv) (c .before .loop-test .taken)
 
 size-of-requires : tie.Need-size-of-requires Inv-loop μ-loop
-size-of-requires c κs = (c .before .before .before .before .before .before .before .before .before .before .before .pre .1 .0, row-node _ _ _ _ _ (c .before .before .before .before .before .before .before .before .before .before .before .pre .0) (c .before .before .before .before .before .before .before .before .before .before .before .pre .1 .1) (c .before .before .before .before .before .wide .ensures) _ (c .before .before .loop .inv) (c .before .loop-test .taken))
+size-of-requires c κs =
+    let start = c .before .before .before .before .before .before .before .before .before .before .before in
+    let the-wide = c .before .before .before .before .before .wide in
+    (start .pre .1 .0, row-node _ _ _ _ _ (start .pre .0) (start .pre .1 .1) (the-wide .ensures) _ (c .before .before .loop .inv) (c .before .loop-test .taken))
 
 larger-requires : tie.Need-larger-requires Inv-loop μ-loop
 larger-requires c κs = search needs
@@ -54,10 +65,15 @@ loop-less : tie.Need-loop-less Inv-loop μ-loop
 loop-less c = search needs
 
 loop-again : tie.Need-loop-again Inv-loop μ-loop
-loop-again c = row-more _ _ _ _ _ _ _ (c .before .before .before .before .loop .inv) (c .before .before .before .loop-test .taken) (below-more-of _ _ _ _ _ (c .larger .ensures .left)) (below-more-of _ _ _ _ _ (c .larger .ensures .right) _ (c .before .size-of .ensures))
+loop-again c =
+    let the-loop = c .before .before .before .before .loop in
+    row-more _ _ _ _ _ _ _ (the-loop .inv) (c .before .before .before .loop-test .taken) (below-more-of _ _ _ _ _ (c .larger .ensures .left)) (below-more-of _ _ _ _ _ (c .larger .ensures .right) _ (c .before .size-of .ensures))
 
 returns : tie.Need-returns Inv-loop μ-loop
-returns c = row-end _ _ _ _ _ (c .before .before .before .before .before .before .before .before .before .before .pre .0) (c .before .before .before .before .before .before .before .before .before .before .pre .1 .1) (c .before .before .before .before .wide .ensures) _ (c .before .loop .inv) (c .loop-test .left)
+returns c =
+    let start = c .before .before .before .before .before .before .before .before .before .before in
+    let the-wide = c .before .before .before .before .wide in
+    row-end _ _ _ _ _ (start .pre .0) (start .pre .1 .1) (the-wide .ensures) _ (c .before .loop .inv) (c .loop-test .left)
 
 pub largest-spec : {M : Type 1} → statement M
 largest-spec =

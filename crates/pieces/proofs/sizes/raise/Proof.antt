@@ -42,7 +42,9 @@ mul-pieces : tie.Need-mul-pieces
 mul-pieces c = search needs
 
 slice-write-pieces : tie.Need-slice-write-pieces
-slice-write-pieces c = push-room (c .before .before .before .before .before .before .before .before .before .before .args .sizes .now) _ _ (c .wide3 .ensures) (omega (arith, c .before .before .before .before .before .before .before .before .before .before .pre .0, c .before .before .before .before .before .before .before .before .before .before .pre .1 .1)) (omega (arith, c .before .if2 .left, ap (λ (z : ℕ). getD (c .before .before .before .before .before .before .before .before .before .before .args .sizes .now) z 0) (c .before .before .before .wide2 .ensures))) _ _ (c .before .before .before .before .before .before .before .before .before .before .pre .1 .0)
+slice-write-pieces c =
+    let start = c .before .before .before .before .before .before .before .before .before .before in
+    push-room (start .args .sizes .now) _ _ (c .wide3 .ensures) (omega (arith, start .pre .0, start .pre .1 .1)) (omega (arith, c .before .if2 .left, ap (λ (z : ℕ). getD (start .args .sizes .now) z 0) (c .before .before .before .wide2 .ensures))) _ _ (start .pre .1 .0)
 
 add-result : tie.Need-add-result
 add-result c = search needs
@@ -54,7 +56,9 @@ same-length-2 : tie.Need-same-length-2
 same-length-2 c = search needs
 
 returns-3 : tie.Need-returns-3
-returns-3 c = (raises-one (c .before .before .before .before .before .before .before .before .before .before .args .sizes .now) _ _ (c .wide3 .ensures) (omega (arith, c .before .before .before .before .before .before .before .before .before .before .pre .0, c .before .before .before .before .before .before .before .before .before .before .pre .1 .1)) (omega (arith, c .before .if2 .left, ap (λ (z : ℕ). getD (c .before .before .before .before .before .before .before .before .before .before .args .sizes .now) z 0) (c .before .before .before .wide2 .ensures))) _ _, raised-one (c .before .before .before .before .before .before .before .before .before .before .args .sizes .now) _ _ (c .wide3 .ensures) (omega (arith, c .before .before .before .before .before .before .before .before .before .before .pre .0, c .before .before .before .before .before .before .before .before .before .before .pre .1 .1)) (omega (arith, c .before .if2 .left, ap (λ (z : ℕ). getD (c .before .before .before .before .before .before .before .before .before .before .args .sizes .now) z 0) (c .before .before .before .wide2 .ensures))) _)
+returns-3 c =
+    let start = c .before .before .before .before .before .before .before .before .before .before in
+    (raises-one (start .args .sizes .now) _ _ (c .wide3 .ensures) (omega (arith, start .pre .0, start .pre .1 .1)) (omega (arith, c .before .if2 .left, ap (λ (z : ℕ). getD (start .args .sizes .now) z 0) (c .before .before .before .wide2 .ensures))) _ _, raised-one (start .args .sizes .now) _ _ (c .wide3 .ensures) (omega (arith, start .pre .0, start .pre .1 .1)) (omega (arith, c .before .if2 .left, ap (λ (z : ℕ). getD (start .args .sizes .now) z 0) (c .before .before .before .wide2 .ensures))) _)
 
 pub raise-spec : {M : Type 1} → statement M
 raise-spec =

@@ -35,16 +35,29 @@ wide-requires-2 : tie.Need-wide-requires-2 Inv-loop μ-loop
 wide-requires-2 c κs = search needs
 
 loop-holds : tie.Need-loop-holds Inv-loop μ-loop
-loop-holds c = (none, row-none _ _ _ _ _ (c .before .before .before .before .before .before .before .before .before .pre .0) (c .before .before .before .before .before .before .before .before .before .pre .1 .1 .1) (c .before .before .wide .ensures) _ _ (c .wide2 .ensures))
+loop-holds c =
+    let start = c .before .before .before .before .before .before .before .before .before in
+    (none, row-none _ _ _ _ _ (start .pre .0) (start .pre .1 .1 .1) (c .before .before .wide .ensures) _ _ (c .wide2 .ensures))
 
 mul-raise : tie.Need-mul-raise Inv-loop μ-loop
-mul-raise c = scaled-fits _ _ 4 (row-listed _ _ _ _ _ (c .before .before .before .before .before .before .before .before .before .before .before .before .before .pre .0) (c .before .before .before .before .before .before .before .before .before .before .before .before .before .pre .1 .1 .1) (c .before .before .before .before .before .before .wide .ensures) _ (c .before .before .before .loop .inv .1) (c .before .before .loop-test .taken)) (search needs)
+mul-raise c =
+    let start = c .before .before .before .before .before .before .before .before .before .before .before .before .before in
+    let the-wide = c .before .before .before .before .before .before .wide in
+    scaled-fits _ _ 4 (row-listed _ _ _ _ _ (start .pre .0) (start .pre .1 .1 .1) (the-wide .ensures) _ (c .before .before .before .loop .inv .1) (c .before .before .loop-test .taken)) (search needs)
 
 shared-slice-read-raise : tie.Need-shared-slice-read-raise Inv-loop μ-loop
-shared-slice-read-raise c = row-listed _ _ _ _ _ (c .before .before .before .before .before .before .before .before .before .before .before .before .before .before .pre .0) (c .before .before .before .before .before .before .before .before .before .before .before .before .before .before .pre .1 .1 .1) (c .before .before .before .before .before .before .before .wide .ensures) _ (c .before .before .before .before .loop .inv .1) (c .before .before .before .loop-test .taken)
+shared-slice-read-raise c =
+    let start = c .before .before .before .before .before .before .before .before .before .before .before .before .before .before in
+    let the-wide = c .before .before .before .before .before .before .before .wide in
+    let the-loop = c .before .before .before .before .loop in
+    row-listed _ _ _ _ _ (start .pre .0) (start .pre .1 .1 .1) (the-wide .ensures) _ (the-loop .inv .1) (c .before .before .before .loop-test .taken)
 
 raise-requires : tie.Need-raise-requires Inv-loop μ-loop
-raise-requires c κs = (raises-long (c .before .before .before .before .loop .inv .0) .0 ∙ c .before .before .before .before .before .before .before .before .before .before .before .before .before .before .pre .1 .0, (room-after (c .before .before .before .before .loop .inv .0) (c .before .before .before .before .before .before .before .before .before .before .before .before .before .before .pre .1 .1 .0), row-node _ _ _ _ _ (c .before .before .before .before .before .before .before .before .before .before .before .before .before .before .pre .0) (c .before .before .before .before .before .before .before .before .before .before .before .before .before .before .pre .1 .1 .1) (c .before .before .before .before .before .before .before .wide .ensures) _ (c .before .before .before .before .loop .inv .1) (c .before .before .before .loop-test .taken)))
+raise-requires c κs =
+    let start = c .before .before .before .before .before .before .before .before .before .before .before .before .before .before in
+    let the-wide = c .before .before .before .before .before .before .before .wide in
+    let the-loop = c .before .before .before .before .loop in
+    (raises-long (the-loop .inv .0) .0 ∙ start .pre .1 .0, (room-after (the-loop .inv .0) (start .pre .1 .1 .0), row-node _ _ _ _ _ (start .pre .0) (start .pre .1 .1 .1) (the-wide .ensures) _ (the-loop .inv .1) (c .before .before .before .loop-test .taken)))
 
 add-i : tie.Need-add-i Inv-loop μ-loop
 add-i c = search needs
@@ -53,7 +66,11 @@ loop-less : tie.Need-loop-less Inv-loop μ-loop
 loop-less c = search needs
 
 loop-again : tie.Need-loop-again Inv-loop μ-loop
-loop-again c = (raises-then (c .before .before .before .before .before .before .before .before .before .loop .inv .0) (c .before .before .before .before .raise .ensures .0), row-more _ _ _ _ _ _ _ (c .before .before .before .before .before .before .before .before .before .loop .inv .1) (c .before .before .before .before .before .before .before .before .loop-test .taken) (raised-still _ (raises-grown (c .before .before .before .before .raise .ensures .0))) (c .before .before .before .before .raise .ensures .1))
+loop-again c =
+    let the-loop = c .before .before .before .before .before .before .before .before .before .loop in
+    let the-loop-test = c .before .before .before .before .before .before .before .before .loop-test in
+    let the-raise = c .before .before .before .before .raise in
+    (raises-then (the-loop .inv .0) (the-raise .ensures .0), row-more _ _ _ _ _ _ _ (the-loop .inv .1) (the-loop-test .taken) (raised-still _ (raises-grown (the-raise .ensures .0))) (the-raise .ensures .1))
 
 same-length : tie.Need-same-length Inv-loop μ-loop
 same-length c = raises-long (c .before .loop .inv .0) .1
@@ -62,7 +79,10 @@ same-length-2 : tie.Need-same-length-2 Inv-loop μ-loop
 same-length-2 c = raises-long (c .before .loop .inv .0) .0
 
 returns : tie.Need-returns Inv-loop μ-loop
-returns c = (c .before .loop .inv .0, row-end _ _ _ _ _ (c .before .before .before .before .before .before .before .before .before .before .before .pre .0) (c .before .before .before .before .before .before .before .before .before .before .before .pre .1 .1 .1) (c .before .before .before .before .wide .ensures) _ (c .before .loop .inv .1) (c .loop-test .left))
+returns c =
+    let start = c .before .before .before .before .before .before .before .before .before .before .before in
+    let the-wide = c .before .before .before .before .wide in
+    (c .before .loop .inv .0, row-end _ _ _ _ _ (start .pre .0) (start .pre .1 .1 .1) (the-wide .ensures) _ (c .before .loop .inv .1) (c .loop-test .left))
 
 pub raise-row-spec : {M : Type 1} → statement M
 raise-row-spec =

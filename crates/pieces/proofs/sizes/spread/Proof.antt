@@ -28,19 +28,41 @@ wide-requires : tie.Need-wide-requires Inv-loop μ-loop
 wide-requires c κs = search needs
 
 raise-row-requires : tie.Need-raise-row-requires Inv-loop μ-loop
-raise-row-requires c κs = (search-forth _ _ _ _ _ _ _ (c .before .before .before .before .before .before .before .before .before .before .before .before .before .before .before .pre .0), (c .before .before .before .before .before .loop .inv .spreads .sizes-long, (c .before .before .before .before .before .loop .inv .spreads .room, omega (arith, c .before .before .wide .ensures, spreading-node (c .before .before .before .before .before .loop .inv) (c .before .before .before .before .loop-test .taken)))))
+raise-row-requires c κs =
+    let start = c .before .before .before .before .before .before .before .before .before .before .before .before .before .before .before in
+    let the-loop = c .before .before .before .before .before .loop in
+    let the-loop-test = c .before .before .before .before .loop-test in
+    (search-forth _ _ _ _ _ _ _ (start .pre .0), (the-loop .inv .spreads .sizes-long, (the-loop .inv .spreads .room, omega (arith, c .before .before .wide .ensures, spreading-node (the-loop .inv) (the-loop-test .taken)))))
 
 raise-row-requires-2 : tie.Need-raise-row-requires-2 Inv-loop μ-loop
-raise-row-requires-2 c κs = (search-back _ _ _ _ _ _ _ (c .before .before .before .before .before .before .before .before .before .before .before .before .before .before .before .before .before .before .before .before .before .before .pre .0), (raises-long (c .before .before .before .before .before .before .raise-row .ensures .0) .0 ∙ c .before .before .before .before .before .before .before .before .before .before .before .before .loop .inv .spreads .sizes-long, (room-after (c .before .before .before .before .before .before .raise-row .ensures .0) (c .before .before .before .before .before .before .before .before .before .before .before .before .loop .inv .spreads .room), omega (arith, c .before .before .before .before .before .before .before .before .before .wide .ensures, spreading-node (c .before .before .before .before .before .before .before .before .before .before .before .before .loop .inv) (c .before .before .before .before .before .before .before .before .before .before .before .loop-test .taken)))))
+raise-row-requires-2 c κs =
+    let start = c .before .before .before .before .before .before .before .before .before .before .before .before .before .before .before .before .before .before .before .before .before .before in
+    let the-loop = c .before .before .before .before .before .before .before .before .before .before .before .before .loop in
+    let the-loop-test = c .before .before .before .before .before .before .before .before .before .before .before .loop-test in
+    let the-wide = c .before .before .before .before .before .before .before .before .before .wide in
+    let the-raise-row = c .before .before .before .before .before .before .raise-row in
+    (search-back _ _ _ _ _ _ _ (start .pre .0), (raises-long (the-raise-row .ensures .0) .0 ∙ the-loop .inv .spreads .sizes-long, (room-after (the-raise-row .ensures .0) (the-loop .inv .spreads .room), omega (arith, the-wide .ensures, spreading-node (the-loop .inv) (the-loop-test .taken)))))
 
 add-i : tie.Need-add-i Inv-loop μ-loop
 add-i c = search needs
 
 loop-less : tie.Need-loop-less Inv-loop μ-loop
-loop-less c = omega (arith, spreading-place (c .before .before .before .before .before .before .before .before .before .before .before .before .before .before .before .before .before .loop .inv) (c .before .before .before .before .before .before .before .before .before .before .before .before .before .before .before .before .loop-test .taken), raises-long (c .before .before .before .before .before .before .before .before .before .before .before .raise-row .ensures .0) .1, raises-long (c .before .before .before .before .raise-row2 .ensures .0) .1)
+loop-less c =
+    let the-loop = c .before .before .before .before .before .before .before .before .before .before .before .before .before .before .before .before .before .loop in
+    let the-loop-test = c .before .before .before .before .before .before .before .before .before .before .before .before .before .before .before .before .loop-test in
+    let the-raise-row = c .before .before .before .before .before .before .before .before .before .before .before .raise-row in
+    let the-raise-row2 = c .before .before .before .before .raise-row2 in
+    omega (arith, spreading-place (the-loop .inv) (the-loop-test .taken), raises-long (the-raise-row .ensures .0) .1, raises-long (the-raise-row2 .ensures .0) .1)
 
 loop-again : tie.Need-loop-again Inv-loop μ-loop
-loop-again c = spreading-more _ _ _ _ _ _ _ _ _ (c .before .before .before .before .before .before .before .before .before .before .before .before .before .before .before .before .before .before .before .before .before .before .before .before .before .before .before .pre .0 .turned .round) (c .before .before .before .before .before .before .before .before .before .before .before .before .before .before .before .before .before .loop .inv) (c .before .before .before .before .before .before .before .before .before .before .before .before .before .before .before .before .loop-test .taken) _ (c .before .before .before .before .before .before .before .before .before .before .before .before .before .before .wide .ensures) (c .before .before .before .before .before .before .before .before .before .before .before .raise-row .ensures .0) (c .before .before .before .before .before .before .before .before .before .before .before .raise-row .ensures .1) (c .before .before .before .before .raise-row2 .ensures .0) (c .before .before .before .before .raise-row2 .ensures .1)
+loop-again c =
+    let start = c .before .before .before .before .before .before .before .before .before .before .before .before .before .before .before .before .before .before .before .before .before .before .before .before .before .before .before in
+    let the-loop = c .before .before .before .before .before .before .before .before .before .before .before .before .before .before .before .before .before .loop in
+    let the-loop-test = c .before .before .before .before .before .before .before .before .before .before .before .before .before .before .before .before .loop-test in
+    let the-wide = c .before .before .before .before .before .before .before .before .before .before .before .before .before .before .wide in
+    let the-raise-row = c .before .before .before .before .before .before .before .before .before .before .before .raise-row in
+    let the-raise-row2 = c .before .before .before .before .raise-row2 in
+    spreading-more _ _ _ _ _ _ _ _ _ (start .pre .0 .turned .round) (the-loop .inv) (the-loop-test .taken) _ (the-wide .ensures) (the-raise-row .ensures .0) (the-raise-row .ensures .1) (the-raise-row2 .ensures .0) (the-raise-row2 .ensures .1)
 
 same-length : tie.Need-same-length Inv-loop μ-loop
 same-length c = c .before .loop .inv .spreads .pieces-long ∙ sym (c .before .before .before .before .before .before .before .before .before .before .before .pre .1 .pieces-long)

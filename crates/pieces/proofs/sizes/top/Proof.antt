@@ -34,16 +34,27 @@ wide-requires-2 : tie.Need-wide-requires-2 Inv-loop μ-loop
 wide-requires-2 c κs = search needs
 
 loop-holds : tie.Need-loop-holds Inv-loop μ-loop
-loop-holds c = (search needs, row-none _ _ _ _ _ (c .before .before .before .before .before .before .before .before .pre .0) (c .before .before .before .before .before .before .before .before .pre .1 .1 .0) (c .before .before .wide .ensures) _ _ (c .wide2 .ensures))
+loop-holds c =
+    let start = c .before .before .before .before .before .before .before .before in
+    (search needs, row-none _ _ _ _ _ (start .pre .0) (start .pre .1 .1 .0) (c .before .before .wide .ensures) _ _ (c .wide2 .ensures))
 
 mul-above : tie.Need-mul-above Inv-loop μ-loop
-mul-above c = scaled-fits _ _ 4 (row-listed _ _ _ _ _ (c .before .before .before .before .before .before .before .before .before .before .pre .0) (c .before .before .before .before .before .before .before .before .before .before .pre .1 .1 .0) (c .before .before .before .before .wide .ensures) _ (c .before .loop .inv .1) (c .loop-test .taken)) (search needs)
+mul-above c =
+    let start = c .before .before .before .before .before .before .before .before .before .before in
+    let the-wide = c .before .before .before .before .wide in
+    scaled-fits _ _ 4 (row-listed _ _ _ _ _ (start .pre .0) (start .pre .1 .1 .0) (the-wide .ensures) _ (c .before .loop .inv .1) (c .loop-test .taken)) (search needs)
 
 shared-slice-read-above : tie.Need-shared-slice-read-above Inv-loop μ-loop
-shared-slice-read-above c = row-listed _ _ _ _ _ (c .before .before .before .before .before .before .before .before .before .before .before .pre .0) (c .before .before .before .before .before .before .before .before .before .before .before .pre .1 .1 .0) (c .before .before .before .before .before .wide .ensures) _ (c .before .before .loop .inv .1) (c .before .loop-test .taken)
+shared-slice-read-above c =
+    let start = c .before .before .before .before .before .before .before .before .before .before .before in
+    let the-wide = c .before .before .before .before .before .wide in
+    row-listed _ _ _ _ _ (start .pre .0) (start .pre .1 .1 .0) (the-wide .ensures) _ (c .before .before .loop .inv .1) (c .before .loop-test .taken)
 
 above-requires : tie.Need-above-requires Inv-loop μ-loop
-above-requires c κs = (c .before .before .before .before .before .before .before .before .before .before .before .pre .1 .0, (c .before .before .loop .inv .0, row-node _ _ _ _ _ (c .before .before .before .before .before .before .before .before .before .before .before .pre .0) (c .before .before .before .before .before .before .before .before .before .before .before .pre .1 .1 .0) (c .before .before .before .before .before .wide .ensures) _ (c .before .before .loop .inv .1) (c .before .loop-test .taken)))
+above-requires c κs =
+    let start = c .before .before .before .before .before .before .before .before .before .before .before in
+    let the-wide = c .before .before .before .before .before .wide in
+    (start .pre .1 .0, (c .before .before .loop .inv .0, row-node _ _ _ _ _ (start .pre .0) (start .pre .1 .1 .0) (the-wide .ensures) _ (c .before .before .loop .inv .1) (c .before .loop-test .taken)))
 
 add-i : tie.Need-add-i Inv-loop μ-loop
 add-i c = search needs

@@ -37,7 +37,10 @@ add-t9 c = search needs
 
 -- src/bytes.rt:49:1
 returns-2 : tie.Need-returns-2
-returns-2 c = record { tells = λ nodes. (arc-read _ (c .before .before .before .before .before .before .args .bytes .now) (c .before .before .before .before .before .before .pre) _ _ _ _ (c .before .before .before .before .if1 .left) (c .before .before .before .two-at .ensures) (c .before .before .two-at2 .ensures) (c .before .two-at3 .ensures) (c .two-at4 .ensures), refl) }
+returns-2 c =
+    let start = c .before .before .before .before .before .before in
+    let the-if1 = c .before .before .before .before .if1 in
+    record { tells = λ nodes. (arc-read _ (start .args .bytes .now) (start .pre) _ _ _ _ (the-if1 .left) (c .before .before .before .two-at .ensures) (c .before .before .two-at2 .ensures) (c .before .two-at3 .ensures) (c .two-at4 .ensures), refl) }
 
 pub read-arc-spec : {M : Type 1} → statement M
 read-arc-spec =

@@ -35,15 +35,22 @@ add-if2 c = search needs
 
 -- src/bytes.rt:98:9
 returns-2 : tie.Need-returns-2
-returns-2 c = record { tells = (drive-length _ (c .before .before .before .before .before .before .before .args .bytes .now) (c .before .before .before .before .before .before .before .pre) _ (c .before .wide .ensures ∙ c .before .before .byte .ensures .0) (c .if2 .taken), refl) }
+returns-2 c =
+    let start = c .before .before .before .before .before .before .before in
+    record { tells = (drive-length _ (start .args .bytes .now) (start .pre) _ (c .before .wide .ensures ∙ c .before .before .byte .ensures .0) (c .if2 .taken), refl) }
 
 -- src/bytes.rt:101:9
 returns-3 : tie.Need-returns-3
-returns-3 c = record { tells = (drive-many _ (c .before .before .before .before .before .before .before .before .args .bytes .now) (c .before .before .before .before .before .before .before .before .pre) _ (c .before .before .wide .ensures ∙ c .before .before .before .byte .ensures .0) (c .before .if2 .left) (c .if3 .taken), refl) }
+returns-3 c =
+    let start = c .before .before .before .before .before .before .before .before in
+    record { tells = (drive-many _ (start .args .bytes .now) (start .pre) _ (c .before .before .wide .ensures ∙ c .before .before .before .byte .ensures .0) (c .before .if2 .left) (c .if3 .taken), refl) }
 
 -- src/bytes.rt:104:9
 returns-4 : tie.Need-returns-4
-returns-4 c = record { tells = (drive-room _ (c .before .before .before .before .before .before .before .before .before .args .bytes .now) (c .before .before .before .before .before .before .before .before .before .pre) _ (c .before .before .before .wide .ensures ∙ c .before .before .before .before .byte .ensures .0) (c .before .before .if2 .left) (c .if4 .taken), refl) }
+returns-4 c =
+    let start = c .before .before .before .before .before .before .before .before .before in
+    let the-byte = c .before .before .before .before .byte in
+    record { tells = (drive-room _ (start .args .bytes .now) (start .pre) _ (c .before .before .before .wide .ensures ∙ the-byte .ensures .0) (c .before .before .if2 .left) (c .if4 .taken), refl) }
 
 -- src/bytes.rt:106:5
 read-nodes-requires : tie.Need-read-nodes-requires
@@ -55,7 +62,14 @@ same-length c = search needs
 
 -- src/bytes.rt:89:1
 returns-5 : tie.Need-returns-5
-returns-5 c = record { tells = drive-read (c .before .before .before .before .before .before .before .before .before .before .before .before .before .args .bytes .now) _ _ _ (c .before .before .read-nodes .ensures) (c .before .before .before .before .before .before .before .before .before .before .before .before .before .pre) (c .before .before .before .before .before .before .if2 .left) (c .before .before .before .before .before .before .before .wide .ensures ∙ c .before .before .before .before .before .before .before .before .byte .ensures .0) (c .before .before .before .before .before .if3 .left) (c .before .before .before .before .if4 .left) }
+returns-5 c =
+    let start = c .before .before .before .before .before .before .before .before .before .before .before .before .before in
+    let the-byte = c .before .before .before .before .before .before .before .before .byte in
+    let the-wide = c .before .before .before .before .before .before .before .wide in
+    let the-if2 = c .before .before .before .before .before .before .if2 in
+    let the-if3 = c .before .before .before .before .before .if3 in
+    let the-if4 = c .before .before .before .before .if4 in
+    record { tells = drive-read (start .args .bytes .now) _ _ _ (c .before .before .read-nodes .ensures) (start .pre) (the-if2 .left) (the-wide .ensures ∙ the-byte .ensures .0) (the-if3 .left) (the-if4 .left) }
 
 pub read-drive-spec : {M : Type 1} → statement M
 read-drive-spec =

@@ -31,11 +31,20 @@ byte-requires c κs = search needs
 
 -- src/bytes.rt:40:9
 returns-2 : tie.Need-returns-2
-returns-2 c = fixed-wrong _ (λ room. head-nodes room (c .before .before .before .before .before .before .before .args .bytes .now) (c .before .before .before .before .before .before .before .pre) _ _ _ (c .before .before .before .before .before .if1 .left) (c .before .before .before .before .two-at .ensures) (c .before .before .before .two-at2 .ensures) (c .before .byte .ensures) (c .if2 .taken))
+returns-2 c =
+    let start = c .before .before .before .before .before .before .before in
+    let the-if1 = c .before .before .before .before .before .if1 in
+    let the-two-at = c .before .before .before .before .two-at in
+    fixed-wrong _ (λ room. head-nodes room (start .args .bytes .now) (start .pre) _ _ _ (the-if1 .left) (the-two-at .ensures) (c .before .before .before .two-at2 .ensures) (c .before .byte .ensures) (c .if2 .taken))
 
 -- src/bytes.rt:43:9
 returns-3 : tie.Need-returns-3
-returns-3 c = fixed-wrong _ (λ room. head-arcs room (c .before .before .before .before .before .before .before .before .args .bytes .now) (c .before .before .before .before .before .before .before .before .pre) _ _ _ (c .before .before .before .before .before .before .if1 .left) (c .before .before .before .before .before .two-at .ensures) (c .before .before .before .before .two-at2 .ensures) (c .before .before .byte .ensures) (c .if3 .taken))
+returns-3 c =
+    let start = c .before .before .before .before .before .before .before .before in
+    let the-if1 = c .before .before .before .before .before .before .if1 in
+    let the-two-at = c .before .before .before .before .before .two-at in
+    let the-two-at2 = c .before .before .before .before .two-at2 in
+    fixed-wrong _ (λ room. head-arcs room (start .args .bytes .now) (start .pre) _ _ _ (the-if1 .left) (the-two-at .ensures) (the-two-at2 .ensures) (c .before .before .byte .ensures) (c .if3 .taken))
 
 -- src/bytes.rt:45:26
 wide-requires : tie.Need-wide-requires
@@ -51,7 +60,14 @@ wide-requires-3 c κs = search needs
 
 -- src/bytes.rt:29:1
 returns-4 : tie.Need-returns-4
-returns-4 c = head-told (c .before .before .before .before .before .before .before .before .before .before .before .args .bytes .now) _ _ _ _ _ _ (c .before .before .wide .ensures) (c .before .wide2 .ensures) (c .wide3 .ensures) (λ room. head-read room (c .before .before .before .before .before .before .before .before .before .before .before .args .bytes .now) (c .before .before .before .before .before .before .before .before .before .before .before .pre) _ _ _ (c .before .before .before .before .before .before .before .before .before .if1 .left) (c .before .before .before .before .before .before .before .before .two-at .ensures) (c .before .before .before .before .before .before .before .two-at2 .ensures) (c .before .before .before .before .before .byte .ensures) (c .before .before .before .before .if2 .left) (c .before .before .before .if3 .left))
+returns-4 c =
+    let start = c .before .before .before .before .before .before .before .before .before .before .before in
+    let the-if1 = c .before .before .before .before .before .before .before .before .before .if1 in
+    let the-two-at = c .before .before .before .before .before .before .before .before .two-at in
+    let the-two-at2 = c .before .before .before .before .before .before .before .two-at2 in
+    let the-byte = c .before .before .before .before .before .byte in
+    let the-if2 = c .before .before .before .before .if2 in
+    head-told (start .args .bytes .now) _ _ _ _ _ _ (c .before .before .wide .ensures) (c .before .wide2 .ensures) (c .wide3 .ensures) (λ room. head-read room (start .args .bytes .now) (start .pre) _ _ _ (the-if1 .left) (the-two-at .ensures) (the-two-at2 .ensures) (the-byte .ensures) (the-if2 .left) (c .before .before .before .if3 .left))
 
 pub read-head-spec : {M : Type 1} → statement M
 read-head-spec =

@@ -51,7 +51,10 @@ same-length c = search needs
 
 -- src/bytes.rt:134:1
 returns-2 : tie.Need-returns-2
-returns-2 c = line-read _ _ _ _ _ _ _ (c .before .before .before .before .before .before .before .text .given .1) (c .before .before .before .before .before .before .before .before .before .before .read-text .ensures) (c .before .before .read-frame .ensures)
+returns-2 c =
+    let the-read-text = c .before .before .before .before .before .before .before .before .before .before .read-text in
+    let the-text = c .before .before .before .before .before .before .before .text in
+    line-read _ _ _ _ _ _ _ (the-text .given .1) (the-read-text .ensures) (c .before .before .read-frame .ensures)
 
 pub read-line-spec : {M : Type 1} → statement M
 read-line-spec =

@@ -49,7 +49,9 @@ loop-less c = omega arith
 
 -- src/bytes.rt:82:5
 loop-again : tie.Need-loop-again Inv-loop μ-loop
-loop-again c = (nodes-more (c .before .before .before .before .before .args .bytes .now) _ _ _ (c .before .before .loop .inv .0) _ (omega (arith, c .before .before .before .before .before .pre .0)) (omega (arith, c .before .before .before .before .before .pre .1)) (c .two-at .ensures), omega arith)
+loop-again c =
+    let start = c .before .before .before .before .before in
+    (nodes-more (start .args .bytes .now) _ _ _ (c .before .before .loop .inv .0) _ (omega (arith, start .pre .0)) (omega (arith, start .pre .1)) (c .two-at .ensures), omega arith)
 
 -- src/bytes.rt:77:1
 same-length : tie.Need-same-length Inv-loop μ-loop

@@ -21,7 +21,9 @@ two-at-requires-2 c κs = search needs
 
 -- src/bytes.rt:64:1
 returns-2 : tie.Need-returns-2
-returns-2 c = record { tells = λ nodes. (question-read _ (c .before .before .before .before .args .bytes .now) (c .before .before .before .before .pre) _ _ (c .before .before .if1 .left) (c .before .two-at .ensures) (c .two-at2 .ensures), refl) }
+returns-2 c =
+    let start = c .before .before .before .before in
+    record { tells = λ nodes. (question-read _ (start .args .bytes .now) (start .pre) _ _ (c .before .before .if1 .left) (c .before .two-at .ensures) (c .two-at2 .ensures), refl) }
 
 pub read-question-spec : {M : Type 1} → statement M
 read-question-spec = tie.close (tie.spec returns two-at-requires two-at-requires-2 returns-2)

@@ -62,15 +62,26 @@ enum-told c = search needs
 
 -- src/characters.rt:58:13
 same-length : tie.Need-same-length Inv-loop μ-loop
-same-length c = c .before .before .before .before .before .before .loop .inv .long ∙ sym (c .before .before .before .before .before .before .before .before .before .before .before .pre)
+same-length c =
+    let start = c .before .before .before .before .before .before .before .before .before .before .before in
+    let the-loop = c .before .before .before .before .before .before .loop in
+    the-loop .inv .long ∙ sym (start .pre)
 
 -- src/characters.rt:58:13
 returns-3 : tie.Need-returns-3 Inv-loop μ-loop
-returns-3 c = record { tells = reading-stop (c .before .before .before .before .before .before .before .before .before .before .before .args .line .now) _ _ (c .before .before .before .before .before .before .loop .inv) (omega (arith, c .before .before .before .before .before .loop-test .taken)) (subst (ReadsPair _ _) (c .enum-told .given .1) (c .before .before .read-pair .ensures)) }
+returns-3 c =
+    let start = c .before .before .before .before .before .before .before .before .before .before .before in
+    let the-loop = c .before .before .before .before .before .before .loop in
+    let the-loop-test = c .before .before .before .before .before .loop-test in
+    record { tells = reading-stop (start .args .line .now) _ _ (the-loop .inv) (omega (arith, the-loop-test .taken)) (subst (ReadsPair _ _) (c .enum-told .given .1) (c .before .before .read-pair .ensures)) }
 
 -- src/characters.rt:60:9
 slice-write-room : tie.Need-slice-write-room Inv-loop μ-loop
-slice-write-room c = omega (arith, c .before .before .before .before .before .before .before .loop .inv .long, c .before .before .before .before .before .before .loop-test .taken, c .before .before .before .before .before .before .before .before .before .if1 .left)
+slice-write-room c =
+    let the-if1 = c .before .before .before .before .before .before .before .before .before .if1 in
+    let the-loop = c .before .before .before .before .before .before .before .loop in
+    let the-loop-test = c .before .before .before .before .before .before .loop-test in
+    omega (arith, the-loop .inv .long, the-loop-test .taken, the-if1 .left)
 
 -- src/characters.rt:61:9
 add-i : tie.Need-add-i Inv-loop μ-loop
@@ -82,7 +93,12 @@ loop-less c = omega arith
 
 -- src/characters.rt:55:5
 loop-again : tie.Need-loop-again Inv-loop μ-loop
-loop-again c = reading-more (c .before .before .before .before .before .before .before .before .before .before .before .before .args .line .now) _ _ (c .before .before .before .before .before .before .before .loop .inv) _ (omega (arith, c .before .before .before .before .before .before .loop-test .taken)) (omega (arith, c .before .before .before .before .before .before .loop-test .taken, c .before .before .before .before .before .before .before .before .before .if1 .left)) (subst (ReadsPair _ _) (c .before .pair .given .1) (c .before .before .before .read-pair .ensures))
+loop-again c =
+    let start = c .before .before .before .before .before .before .before .before .before .before .before .before in
+    let the-if1 = c .before .before .before .before .before .before .before .before .before .if1 in
+    let the-loop = c .before .before .before .before .before .before .before .loop in
+    let the-loop-test = c .before .before .before .before .before .before .loop-test in
+    reading-more (start .args .line .now) _ _ (the-loop .inv) _ (omega (arith, the-loop-test .taken)) (omega (arith, the-loop-test .taken, the-if1 .left)) (subst (ReadsPair _ _) (c .before .pair .given .1) (c .before .before .before .read-pair .ensures))
 
 -- src/characters.rt:43:1
 same-length-2 : tie.Need-same-length-2 Inv-loop μ-loop

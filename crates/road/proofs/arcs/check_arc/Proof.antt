@@ -28,7 +28,9 @@ head-falls-requires : tie.Need-head-falls-requires
 head-falls-requires c κs = search needs
 
 returns-3 : tie.Need-returns-3
-returns-3 c = judges-refused (first-falls _ _ _ _ _ (λ o. omega (arith, o .outside)) (head-apart _ _ _ _ _ (c .before .before .before .before .before .before .before .before .before .pre) (λ e. c .before .before .if2 .left (omega arith))) (c .before .head-falls .ensures .yes (c .if3 .taken)))
+returns-3 c =
+    let start = c .before .before .before .before .before .before .before .before .before in
+    judges-refused (first-falls _ _ _ _ _ (λ o. omega (arith, o .outside)) (head-apart _ _ _ _ _ (start .pre) (λ e. c .before .before .if2 .left (omega arith))) (c .before .head-falls .ensures .yes (c .if3 .taken)))
 
 mul-if4 : tie.Need-mul-if4
 mul-if4 c = search needs
@@ -37,10 +39,16 @@ shared-slice-read-if4 : tie.Need-shared-slice-read-if4
 shared-slice-read-if4 c = search needs
 
 returns-4 : tie.Need-returns-4
-returns-4 c = judges-refused (first-heavy _ _ _ _ _ (λ o. omega (arith, o .outside)) (head-apart _ _ _ _ _ (c .before .before .before .before .before .before .before .before .before .before .before .pre) (λ e. c .before .before .before .before .if2 .left (omega arith))) (c .before .before .before .head-falls .ensures .no (c .before .before .if3 .left)) (record { over = c .if4 .taken }))
+returns-4 c =
+    let start = c .before .before .before .before .before .before .before .before .before .before .before in
+    let the-if2 = c .before .before .before .before .if2 in
+    judges-refused (first-heavy _ _ _ _ _ (λ o. omega (arith, o .outside)) (head-apart _ _ _ _ _ (start .pre) (λ e. the-if2 .left (omega arith))) (c .before .before .before .head-falls .ensures .no (c .before .before .if3 .left)) (record { over = c .if4 .taken }))
 
 returns-5 : tie.Need-returns-5
-returns-5 c = judges-passed (arc-clear _ _ _ _ _ (λ o. omega (arith, o .outside)) (head-apart _ _ _ _ _ (c .before .before .before .before .before .before .before .before .before .before .before .pre) (λ e. c .before .before .before .before .if2 .left (omega arith))) (c .before .before .before .head-falls .ensures .no (c .before .before .if3 .left)) (λ o. omega (arith, o .over)))
+returns-5 c =
+    let start = c .before .before .before .before .before .before .before .before .before .before .before in
+    let the-if2 = c .before .before .before .before .if2 in
+    judges-passed (arc-clear _ _ _ _ _ (λ o. omega (arith, o .outside)) (head-apart _ _ _ _ _ (start .pre) (λ e. the-if2 .left (omega arith))) (c .before .before .before .head-falls .ensures .no (c .before .before .if3 .left)) (λ o. omega (arith, o .over)))
 
 pub check-arc-spec : {M : Type 1} → statement M
 check-arc-spec =

@@ -47,7 +47,9 @@ loop-again : tie.Need-loop-again Inv-loop μ-loop
 loop-again c = (omega arith, rw (c .enum-told .given .1) at (c .before .before .check-row .ensures))
 
 returns-2 : tie.Need-returns-2 Inv-loop μ-loop
-returns-2 c = judged-passed (found-none _ _ _ _ _ (omega arith) (clear-at _ _ _ _ _ _ (ap (λ (u : ℕ). getD (c .before .before .before .before .before .args .starts .now) u 0) (at-end (c .before .loop .inv .0) (c .loop-test .left)) ∙ c .before .before .before .before .before .pre .rising .ends) (c .before .loop .inv .1)))
+returns-2 c =
+    let start = c .before .before .before .before .before in
+    judged-passed (found-none _ _ _ _ _ (omega arith) (clear-at _ _ _ _ _ _ (ap (λ (u : ℕ). getD (start .args .starts .now) u 0) (at-end (c .before .loop .inv .0) (c .loop-test .left)) ∙ start .pre .rising .ends) (c .before .loop .inv .1)))
 
 pub check-arcs-spec : {M : Type 1} → statement M
 check-arcs-spec =

@@ -35,10 +35,14 @@ wide-requires-2 : tie.Need-wide-requires-2 Inv-loop μ-loop
 wide-requires-2 c κs = search needs
 
 loop-holds : tie.Need-loop-holds Inv-loop μ-loop
-loop-holds c = (omega arith, omega (arith, c .before .before .before .before .before .before .before .pre .0 .rising .rises (c .before .before .before .before .before .before .before .args .tail) (omega arith)), clear-at _ _ _ _ _ _ (omega arith) (c .before .before .before .before .before .before .before .pre .1 .1))
+loop-holds c =
+    let start = c .before .before .before .before .before .before .before in
+    (omega arith, omega (arith, start .pre .0 .rising .rises (start .args .tail) (omega arith)), clear-at _ _ _ _ _ _ (omega arith) (start .pre .1 .1))
 
 check-arc-requires : tie.Need-check-arc-requires Inv-loop μ-loop
-check-arc-requires c κs = placed _ _ _ (c .before .before .before .before .before .before .before .before .before .pre .0) _ _ (c .before .before .before .before .before .before .before .before .before .pre .1 .0) (c .before .loop .inv .0) (omega arith)
+check-arc-requires c κs =
+    let start = c .before .before .before .before .before .before .before .before .before in
+    placed _ _ _ (start .pre .0) _ _ (start .pre .1 .0) (c .before .loop .inv .0) (omega arith)
 
 enum-told : tie.Need-enum-told Inv-loop μ-loop
 enum-told c = search needs
@@ -48,9 +52,11 @@ enum-told-2 c = search needs
 
 returns : tie.Need-returns Inv-loop μ-loop
 returns c =
+    let start = c .before .before .before .before .before .before .before .before .before .before .before .before in
+    let the-loop = c .before .before .before .before .loop in
     rw (c .enum-told2 .given .1)
-    (found _ _ _ _ _ _ (placed _ _ _ (c .before .before .before .before .before .before .before .before .before .before .before .before .pre .0) _ _ (c .before .before .before .before .before .before .before .before .before .before .before .before .pre .1 .0) (c .before .before .before .before .loop .inv .0) (omega arith) .head)
-    (c .before .before .before .before .loop .inv .2)
+    (found _ _ _ _ _ _ (placed _ _ _ (start .pre .0) _ _ (start .pre .1 .0) (the-loop .inv .0) (omega arith) .head)
+    (the-loop .inv .2)
     (c .before .before .check-arc .ensures .refused _ (c .enum-told2 .given .1)))
 
 add-p : tie.Need-add-p Inv-loop μ-loop

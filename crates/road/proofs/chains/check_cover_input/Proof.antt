@@ -34,19 +34,28 @@ enum-told-4 c = search needs
 
 returns-2 : tie.Need-returns-2
 returns-2 c =
-    goes-on (graphFaults roadLimits _ _ _) _ (c .before .before .before .enum-told .given .1) (rw (c .before .before .before .before .before .before .road-limits .ensures) at (c .before .before .before .before .before .check-graph .ensures))
+    let the-road-limits = c .before .before .before .before .before .before .road-limits in
+    let the-check-graph = c .before .before .before .before .before .check-graph in
+    goes-on (graphFaults roadLimits _ _ _) _ (c .before .before .before .enum-told .given .1) (rw (the-road-limits .ensures) at (the-check-graph .ensures))
     (stops (_ ∷ []) _ (c .enum-told4 .given .1) (judged-alone (c .before .before .check-k .ensures)))
 
 node-count-requires : tie.Need-node-count-requires
 node-count-requires c κs = search needs
 
 check-order-requires : tie.Need-check-order-requires
-check-order-requires c κs = omega (arith, c .node-count .ensures, sound-of _ _ _ _ (c .before .before .before .before .before .before .check-graph .ensures .passed (c .before .before .before .before .enum-told .given .1)) .sized .most)
+check-order-requires c κs =
+    let the-check-graph = c .before .before .before .before .before .before .check-graph in
+    let the-enum-told = c .before .before .before .before .enum-told in
+    omega (arith, c .node-count .ensures, sound-of _ _ _ _ (the-check-graph .ensures .passed (the-enum-told .given .1)) .sized .most)
 
 returns-3 : tie.Need-returns-3
 returns-3 c =
-    goes-on (graphFaults roadLimits _ _ _) _ (c .before .before .before .before .before .enum-told .given .1) (rw (c .before .before .before .before .before .before .before .before .road-limits .ensures) at (c .before .before .before .before .before .before .before .check-graph .ensures))
-    (goes-on (_ ∷ []) _ (c .before .before .enum-told3 .given .1) (judged-alone (c .before .before .before .before .check-k .ensures)) (judged-alone (rw (c .before .node-count .ensures) at (c .check-order .ensures))))
+    let the-road-limits = c .before .before .before .before .before .before .before .before .road-limits in
+    let the-check-graph = c .before .before .before .before .before .before .before .check-graph in
+    let the-enum-told = c .before .before .before .before .before .enum-told in
+    let the-check-k = c .before .before .before .before .check-k in
+    goes-on (graphFaults roadLimits _ _ _) _ (the-enum-told .given .1) (rw (the-road-limits .ensures) at (the-check-graph .ensures))
+    (goes-on (_ ∷ []) _ (c .before .before .enum-told3 .given .1) (judged-alone (the-check-k .ensures)) (judged-alone (rw (c .before .node-count .ensures) at (c .check-order .ensures))))
 
 pub check-cover-input-spec : {M : Type 1} → statement M
 check-cover-input-spec =

@@ -27,7 +27,10 @@ check-set-requires : tie.Need-check-set-requires
 check-set-requires c κs = search needs
 
 returns-2 : tie.Need-returns-2
-returns-2 c = goes-on (graphFaults roadLimits _ _ _) _ (c .before .before .enum-told .given .1) (rw (c .before .before .before .before .before .road-limits .ensures) at (c .before .before .before .before .check-graph .ensures)) (judged-alone (rw (c .before .node-count .ensures) at (c .check-set .ensures)))
+returns-2 c =
+    let the-road-limits = c .before .before .before .before .before .road-limits in
+    let the-check-graph = c .before .before .before .before .check-graph in
+    goes-on (graphFaults roadLimits _ _ _) _ (c .before .before .enum-told .given .1) (rw (the-road-limits .ensures) at (the-check-graph .ensures)) (judged-alone (rw (c .before .node-count .ensures) at (c .check-set .ensures)))
 
 pub check-road-and-set-spec : {M : Type 1} → statement M
 check-road-and-set-spec =

@@ -44,13 +44,21 @@ shared-slice-read-joined : tie.Need-shared-slice-read-joined
 shared-slice-read-joined c = search needs
 
 joined-requires : tie.Need-joined-requires
-joined-requires c κs = (c .before .before .before .before .before .before .before .before .before .before .pre .0, omega (arith, c .before .before .before .before .before .before .before .before .before .before .pre .1 .1 .inside (c .before .before .before .before .before .before .before .before .before .before .args .i - 1) (omega (arith, c .before .before .before .if2 .left))))
+joined-requires c κs =
+    let start = c .before .before .before .before .before .before .before .before .before .before in
+    (start .pre .0, omega (arith, start .pre .1 .1 .inside (start .args .i - 1) (omega (arith, c .before .before .before .if2 .left))))
 
 returns-3 : tie.Need-returns-3
-returns-3 c = entered-more _ _ _ _ (c .before .before .before .before .before .if2 .left) (c .before .before .before .before .before .before .before .before .before .before .before .before .pre .1 .1) (omega arith) (rw (c .before .before .before .wide2 .ensures) at (c .before .joined .ensures .yes (c .if3 .taken)))
+returns-3 c =
+    let start = c .before .before .before .before .before .before .before .before .before .before .before .before in
+    let the-if2 = c .before .before .before .before .before .if2 in
+    entered-more _ _ _ _ (the-if2 .left) (start .pre .1 .1) (omega arith) (rw (c .before .before .before .wide2 .ensures) at (c .before .joined .ensures .yes (c .if3 .taken)))
 
 returns-4 : tie.Need-returns-4
-returns-4 c = told (apart-at _ _ _ _ (c .before .before .before .before .before .if2 .left) (c .before .before .before .before .before .before .before .before .before .before .before .before .pre .1 .0) (rw (c .before .before .before .wide2 .ensures) at (c .before .joined .ensures .no (c .if3 .left))))
+returns-4 c =
+    let start = c .before .before .before .before .before .before .before .before .before .before .before .before in
+    let the-if2 = c .before .before .before .before .before .if2 in
+    told (apart-at _ _ _ _ (the-if2 .left) (start .pre .1 .0) (rw (c .before .before .before .wide2 .ensures) at (c .before .joined .ensures .no (c .if3 .left))))
 
 pub check-position-spec : {M : Type 1} → statement M
 check-position-spec =

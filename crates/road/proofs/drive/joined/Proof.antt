@@ -55,7 +55,10 @@ mul-if2 : tie.Need-mul-if2 Inv-loop μ-loop
 mul-if2 c = scaled-fits _ _ 4 (middle-listed _ _ (c .before .before .before .before .before .before .before .before .before .before .pre .0) _ _ _ _ _ (c .before .before .before .loop .inv) (omega arith) (omega arith)) (search needs)
 
 shared-slice-read-if2 : tie.Need-shared-slice-read-if2 Inv-loop μ-loop
-shared-slice-read-if2 c = middle-listed _ _ (c .before .before .before .before .before .before .before .before .before .before .before .pre .0) _ _ _ _ _ (c .before .before .before .before .loop .inv) (omega arith) (omega arith)
+shared-slice-read-if2 c =
+    let start = c .before .before .before .before .before .before .before .before .before .before .before in
+    let the-loop = c .before .before .before .before .loop in
+    middle-listed _ _ (start .pre .0) _ _ _ _ _ (the-loop .inv) (omega arith) (omega arith)
 
 add-low : tie.Need-add-low Inv-loop μ-loop
 add-low c = search needs
@@ -64,13 +67,19 @@ loop-less : tie.Need-loop-less Inv-loop μ-loop
 loop-less c = search needs
 
 loop-again : tie.Need-loop-again Inv-loop μ-loop
-loop-again c = between-right _ _ (c .before .before .before .before .before .before .before .before .before .before .before .before .pre .0) _ _ _ _ _ (c .before .before .before .before .before .loop .inv) (omega arith) (omega arith) (c .if2 .taken)
+loop-again c =
+    let start = c .before .before .before .before .before .before .before .before .before .before .before .before in
+    let the-loop = c .before .before .before .before .before .loop in
+    between-right _ _ (start .pre .0) _ _ _ _ _ (the-loop .inv) (omega arith) (omega arith) (c .if2 .taken)
 
 loop-less-2 : tie.Need-loop-less-2 Inv-loop μ-loop
 loop-less-2 c = search needs
 
 loop-again-2 : tie.Need-loop-again-2 Inv-loop μ-loop
-loop-again-2 c = between-left _ _ (c .before .before .before .before .before .before .before .before .before .before .before .before .pre .0) _ _ _ _ _ (c .before .before .before .before .before .loop .inv) (omega arith) (omega arith) (omega (arith, c .before .before .if1 .left))
+loop-again-2 c =
+    let start = c .before .before .before .before .before .before .before .before .before .before .before .before in
+    let the-loop = c .before .before .before .before .before .loop in
+    between-left _ _ (start .pre .0) _ _ _ _ _ (the-loop .inv) (omega arith) (omega arith) (omega (arith, c .before .before .if1 .left))
 
 returns-2 : tie.Need-returns-2 Inv-loop μ-loop
 returns-2 c = tells-no (between-none _ _ (c .before .before .before .before .before .before .before .before .pre .0) _ _ _ _ (c .before .loop .inv) (c .loop-test .left))

@@ -35,7 +35,10 @@ array-read-if3 : tie.Need-array-read-if3 Inv-loop μ-loop
 array-read-if3 c = search needs
 
 returns-3 : tie.Need-returns-3 Inv-loop μ-loop
-returns-3 c = refuses (repeats _ _ _ _ (c .before .before .before .before .before .before .loop .inv) (c .before .before .before .before .before .loop-test .taken) (rw (c .before .before .before .wide .ensures) at (c .if3 .taken)))
+returns-3 c =
+    let the-loop = c .before .before .before .before .before .before .loop in
+    let the-loop-test = c .before .before .before .before .before .loop-test in
+    refuses (repeats _ _ _ _ (the-loop .inv) (the-loop-test .taken) (rw (c .before .before .before .wide .ensures) at (c .if3 .taken)))
 
 array-write-seen : tie.Need-array-write-seen Inv-loop μ-loop
 array-write-seen c = search needs
@@ -47,7 +50,11 @@ loop-less : tie.Need-loop-less Inv-loop μ-loop
 loop-less c = search needs
 
 loop-again : tie.Need-loop-again Inv-loop μ-loop
-loop-again c = rw (c .before .before .before .wide .ensures) (mark-more _ _ _ _ (c .before .before .before .before .before .before .loop .inv) (omega arith) (c .before .before .before .before .before .before .before .before .before .before .pre) (c .before .before .before .before .before .loop-test .taken) (rw (c .before .before .before .wide .ensures) at (c .if3 .left)))
+loop-again c =
+    let start = c .before .before .before .before .before .before .before .before .before .before in
+    let the-loop = c .before .before .before .before .before .before .loop in
+    let the-loop-test = c .before .before .before .before .before .loop-test in
+    rw (c .before .before .before .wide .ensures) (mark-more _ _ _ _ (the-loop .inv) (omega arith) (start .pre) (the-loop-test .taken) (rw (c .before .before .before .wide .ensures) at (c .if3 .left)))
 
 returns-4 : tie.Need-returns-4 Inv-loop μ-loop
 returns-4 c = passes (λ f. f (permutes _ _ _ _ (c .before .loop .inv) (c .loop-test .left) (c .before .before .if1 .left)))

@@ -71,7 +71,10 @@ returns-3 : tie.Need-returns-3 Inv-loop μ-loop
 returns-3 c = refuses (last (λ e. c .if3 .taken (c .before .wide .ensures ∙ e)))
 
 returns-4 : tie.Need-returns-4 Inv-loop μ-loop
-returns-4 c = passes (starts-clear _ _ (record { begins = c .before .before .before .before .before .if1 .left; rises = λ x h. c .before .before .before .before .loop .inv .1 x (omega arith); ends = sym (c .before .wide .ensures) ∙ c .if3 .left }))
+returns-4 c =
+    let the-if1 = c .before .before .before .before .before .if1 in
+    let the-loop = c .before .before .before .before .loop in
+    passes (starts-clear _ _ (record { begins = the-if1 .left; rises = λ x h. the-loop .inv .1 x (omega arith); ends = sym (c .before .wide .ensures) ∙ c .if3 .left }))
 
 pub check-starts-spec : {M : Type 1} → statement M
 check-starts-spec =

@@ -34,7 +34,10 @@ wide-requires : tie.Need-wide-requires
 wide-requires c κs = search needs
 
 add-requires : tie.Need-add-requires
-add-requires c κs = (c .before .before .before .before .before .before .before .before .before .before .before .before .pre .0, (simp length-set (c .before .before .before .before .before .before .before .before .before .before .before .before .pre .1 .0), (c .before .before .before .before .before .before .before .before .before .before .before .before .pre .1 .1, sym (c .before .before .before .before .wide .ensures) ∙ c .before .before .before .if2 .taken)))
+add-requires c κs =
+    let start = c .before .before .before .before .before .before .before .before .before .before .before .before in
+    let the-wide = c .before .before .before .before .wide in
+    (start .pre .0, (simp length-set (start .pre .1 .0), (start .pre .1 .1, sym (the-wide .ensures) ∙ c .before .before .before .if2 .taken)))
 
 add-result : tie.Need-add-result
 add-result c = search needs
@@ -49,13 +52,20 @@ same-length-3 : tie.Need-same-length-3
 same-length-3 c = search needs
 
 returns : tie.Need-returns
-returns c = (c .before .before .before .before .add .ensures .0, taken (c .before .before .before .before .before .before .before .before .before .before .before .before .sooner .ensures .yes (c .before .before .before .before .before .before .before .before .before .before .before .if1 .taken)) refl (c .before .before .before .before .add .ensures .1 .now) (c .before .before .before .before .add .ensures .1 .still) (c .before .before .before .before .add .ensures .1 .only) (omega arith))
+returns c =
+    let the-sooner = c .before .before .before .before .before .before .before .before .before .before .before .before .sooner in
+    let the-if1 = c .before .before .before .before .before .before .before .before .before .before .before .if1 in
+    let the-add = c .before .before .before .before .add in
+    (the-add .ensures .0, taken (the-sooner .ensures .yes (the-if1 .taken)) refl (the-add .ensures .1 .now) (the-add .ensures .1 .still) (the-add .ensures .1 .only) (omega arith))
 
 sub-up : tie.Need-sub-up
 sub-up c = search needs
 
 up-requires : tie.Need-up-requires
-up-requires c κs = (c .before .before .before .before .before .before .before .before .before .before .before .before .pre .0, (simp length-set (c .before .before .before .before .before .before .before .before .before .before .before .before .pre .1 .0), held-place _ _ _ (c .before .before .before .before .before .before .before .before .before .before .before .before .pre .0) _ _ (c .before .before .before .before .wide .ensures) (c .before .before .before .if2 .left)))
+up-requires c κs =
+    let start = c .before .before .before .before .before .before .before .before .before .before .before .before in
+    let the-wide = c .before .before .before .before .wide in
+    (start .pre .0, (simp length-set (start .pre .1 .0), held-place _ _ _ (start .pre .0) _ _ (the-wide .ensures) (c .before .before .before .if2 .left)))
 
 same-length-4 : tie.Need-same-length-4
 same-length-4 c = search needs
@@ -67,10 +77,18 @@ same-length-6 : tie.Need-same-length-6
 same-length-6 c = search needs
 
 returns-2 : tie.Need-returns-2
-returns-2 c = (c .before .before .before .before .up .ensures .0, taken (c .before .before .before .before .before .before .before .before .before .before .before .before .sooner .ensures .yes (c .before .before .before .before .before .before .before .before .before .before .before .if1 .taken)) refl (c .before .before .before .before .up .ensures .1 .still _ (λ z. c .before .before .before .before .before .before .before .before .if2 .left (c .before .before .before .before .before .before .before .before .before .wide .ensures ∙ z))) (c .before .before .before .before .up .ensures .1 .still) (λ y w. inr (c .before .before .before .before .up .ensures .1 .only y w)) (omega arith))
+returns-2 c =
+    let the-sooner = c .before .before .before .before .before .before .before .before .before .before .before .before .sooner in
+    let the-if1 = c .before .before .before .before .before .before .before .before .before .before .before .if1 in
+    let the-wide = c .before .before .before .before .before .before .before .before .before .wide in
+    let the-if2 = c .before .before .before .before .before .before .before .before .if2 in
+    let the-up = c .before .before .before .before .up in
+    (the-up .ensures .0, taken (the-sooner .ensures .yes (the-if1 .taken)) refl (the-up .ensures .1 .still _ (λ z. the-if2 .left (the-wide .ensures ∙ z))) (the-up .ensures .1 .still) (λ y w. inr (the-up .ensures .1 .only y w)) (omega arith))
 
 returns-3 : tie.Need-returns-3
-returns-3 c = (c .before .before .before .before .before .before .pre .0, refused (record { some = not-sooner _ _ (c .before .sooner .ensures .no (c .if1 .left)) .0; most = not-sooner _ _ (c .before .sooner .ensures .no (c .if1 .left)) .1 }) refl refl refl)
+returns-3 c =
+    let start = c .before .before .before .before .before .before in
+    (start .pre .0, refused (record { some = not-sooner _ _ (c .before .sooner .ensures .no (c .if1 .left)) .0; most = not-sooner _ _ (c .before .sooner .ensures .no (c .if1 .left)) .1 }) refl refl refl)
 
 pub offer-spec : {M : Type 1} → statement M
 offer-spec =

@@ -41,7 +41,9 @@ wide-requires-2 : tie.Need-wide-requires-2 Inv-loop μ-loop
 wide-requires-2 c κs = search needs
 
 loop-holds : tie.Need-loop-holds Inv-loop μ-loop
-loop-holds c = relax-none _ _ _ _ _ _ _ _ _ _ _ _ (c .before .before .before .before .before .before .before .before .before .before .before .before .pre .0) (c .before .before .before .before .before .before .before .before .before .before .before .before .pre .1 .0) refl (c .before .before .wide .ensures) (c .before .before .before .before .before .before .before .before .before .before .before .before .pre .1 .1) _ (c .wide2 .ensures)
+loop-holds c =
+    let start = c .before .before .before .before .before .before .before .before .before .before .before .before in
+    relax-none _ _ _ _ _ _ _ _ _ _ _ _ (start .pre .0) (start .pre .1 .0) refl (c .before .before .wide .ensures) (start .pre .1 .1) _ (c .wide2 .ensures)
 
 mul-long : tie.Need-mul-long Inv-loop μ-loop
 mul-long c = omega (arith, row-weighed _ _ _ _ _ _ _ _ _ _ _ _ _ _ _ _ _ (c .before .loop .inv) (c .loop-test .taken), row-listed _ _ _ _ _ _ _ _ _ _ _ _ _ _ _ _ _ (c .before .loop .inv) (c .loop-test .taken))
@@ -56,16 +58,25 @@ add-x : tie.Need-add-x Inv-loop μ-loop
 add-x c = omega (arith, sum-small _ _ _ _ _ _ _ _ _ _ _ _ _ _ _ _ _ (c .before .before .before .loop .inv) (c .before .before .loop-test .taken), c .long .ensures)
 
 mul-wide-3 : tie.Need-mul-wide-3 Inv-loop μ-loop
-mul-wide-3 c = omega (arith, row-listed _ _ _ _ _ _ _ _ _ _ _ _ _ _ _ _ _ (c .before .before .before .before .before .before .loop .inv) (c .before .before .before .before .before .loop-test .taken))
+mul-wide-3 c =
+    let the-loop = c .before .before .before .before .before .before .loop in
+    let the-loop-test = c .before .before .before .before .before .loop-test in
+    omega (arith, row-listed _ _ _ _ _ _ _ _ _ _ _ _ _ _ _ _ _ (the-loop .inv) (the-loop-test .taken))
 
 shared-slice-read-wide-3 : tie.Need-shared-slice-read-wide-3 Inv-loop μ-loop
-shared-slice-read-wide-3 c = row-listed _ _ _ _ _ _ _ _ _ _ _ _ _ _ _ _ _ (c .before .before .before .before .before .before .before .loop .inv) (c .before .before .before .before .before .before .loop-test .taken)
+shared-slice-read-wide-3 c =
+    let the-loop = c .before .before .before .before .before .before .before .loop in
+    let the-loop-test = c .before .before .before .before .before .before .loop-test in
+    row-listed _ _ _ _ _ _ _ _ _ _ _ _ _ _ _ _ _ (the-loop .inv) (the-loop-test .taken)
 
 wide-requires-3 : tie.Need-wide-requires-3 Inv-loop μ-loop
 wide-requires-3 c κs = search needs
 
 offer-requires : tie.Need-offer-requires Inv-loop μ-loop
-offer-requires c κs = (c .before .before .before .before .before .before .before .before .loop .inv .going .heap-is, (lengths-match _ _ _ _ _ _ _ _ _ _ _ _ _ _ _ _ _ (c .before .before .before .before .before .before .before .before .loop .inv) (c .before .before .before .before .before .before .before .loop-test .taken), omega (arith, row-node _ _ _ _ _ _ _ _ _ _ _ _ _ _ _ _ _ (c .before .before .before .before .before .before .before .before .loop .inv) (c .before .before .before .before .before .before .before .loop-test .taken), c .wide3 .ensures)))
+offer-requires c κs =
+    let the-loop = c .before .before .before .before .before .before .before .before .loop in
+    let the-loop-test = c .before .before .before .before .before .before .before .loop-test in
+    (the-loop .inv .going .heap-is, (lengths-match _ _ _ _ _ _ _ _ _ _ _ _ _ _ _ _ _ (the-loop .inv) (the-loop-test .taken), omega (arith, row-node _ _ _ _ _ _ _ _ _ _ _ _ _ _ _ _ _ (the-loop .inv) (the-loop-test .taken), c .wide3 .ensures)))
 
 add-i : tie.Need-add-i Inv-loop μ-loop
 add-i c = search needs
@@ -74,7 +85,14 @@ loop-less : tie.Need-loop-less Inv-loop μ-loop
 loop-less c = search needs
 
 loop-again : tie.Need-loop-again Inv-loop μ-loop
-loop-again c = relax-more _ _ _ _ _ _ _ _ _ _ _ _ _ _ _ _ _ (c .before .before .before .before .before .before .before .before .before .before .before .before .before .before .before .loop .inv) (c .before .before .before .before .before .before .before .before .before .before .before .before .before .before .loop-test .taken) _ _ _ _ _ _ (c .before .before .before .before .before .before .before .wide3 .ensures) (ap (λ (y : ℕ). getD (c .before .before .before .before .before .before .before .before .before .before .before .before .before .before .before .before .before .before .before .before .before .before .before .before .before .before .before .before .args .labels .now) (c .before .before .before .before .before .before .before .before .before .before .before .before .before .before .before .before .before .before .before .before .before .before .before .before .before .before .before .before .args .u) 0 + y) (c .before .before .before .before .before .before .before .before .before .before .before .before .long .ensures)) (c .before .before .before .before .before .before .offer .ensures .0) (c .before .before .before .before .before .before .offer .ensures .1) (c .before .before .before .before .before .before .offer .kept .1 .1 .0) (c .before .before .before .before .before .before .offer .kept .0) (c .before .before .before .before .before .before .offer .kept .1 .0)
+loop-again c =
+    let start = c .before .before .before .before .before .before .before .before .before .before .before .before .before .before .before .before .before .before .before .before .before .before .before .before .before .before .before .before in
+    let the-loop = c .before .before .before .before .before .before .before .before .before .before .before .before .before .before .before .loop in
+    let the-loop-test = c .before .before .before .before .before .before .before .before .before .before .before .before .before .before .loop-test in
+    let the-long = c .before .before .before .before .before .before .before .before .before .before .before .before .long in
+    let the-wide3 = c .before .before .before .before .before .before .before .wide3 in
+    let the-offer = c .before .before .before .before .before .before .offer in
+    relax-more _ _ _ _ _ _ _ _ _ _ _ _ _ _ _ _ _ (the-loop .inv) (the-loop-test .taken) _ _ _ _ _ _ (the-wide3 .ensures) (ap (λ (y : ℕ). getD (start .args .labels .now) (start .args .u) 0 + y) (the-long .ensures)) (the-offer .ensures .0) (the-offer .ensures .1) (the-offer .kept .1 .1 .0) (the-offer .kept .0) (the-offer .kept .1 .0)
 
 same-length : tie.Need-same-length Inv-loop μ-loop
 same-length c = c .before .loop .inv .heap-long

@@ -17,16 +17,25 @@ loop-holds : tie.Need-loop-holds Inv-loop μ-loop
 loop-holds c = running-none _ _ _ _ _ _ _ _ _ (c .before .before .before .before .before .before .before .pre .0)
 
 take-one-requires : tie.Need-take-one-requires Inv-loop μ-loop
-take-one-requires c κs = (c .before .before .before .before .loop .inv .going, (c .before .before .before .before .before .before .before .before .before .before .before .before .pre .1, omega (arith, c .before .before .before .loop-test .taken)))
+take-one-requires c κs =
+    let start = c .before .before .before .before .before .before .before .before .before .before .before .before in
+    let the-loop = c .before .before .before .before .loop in
+    (the-loop .inv .going, (start .pre .1, omega (arith, c .before .before .before .loop-test .taken)))
 
 add-taken : tie.Need-add-taken Inv-loop μ-loop
-add-taken c = omega (arith, c .before .before .before .before .before .before .before .before .before .before .before .loop .inv .spent, c .before .before .before .before .before .before .take-one .ensures .1)
+add-taken c =
+    let the-loop = c .before .before .before .before .before .before .before .before .before .before .before .loop in
+    let the-take-one = c .before .before .before .before .before .before .take-one in
+    omega (arith, the-loop .inv .spent, the-take-one .ensures .1)
 
 loop-less : tie.Need-loop-less Inv-loop μ-loop
 loop-less c = c .before .before .before .before .before .before .take-one .ensures .1
 
 loop-again : tie.Need-loop-again Inv-loop μ-loop
-loop-again c = running-on _ _ _ _ _ _ _ _ _ _ _ _ _ (c .before .before .before .before .before .before .before .before .before .before .before .loop .inv) _ _ _ _ (c .before .before .before .before .before .before .take-one .ensures .0) (c .before .before .before .before .before .before .take-one .ensures .1) (c .before .before .before .before .before .before .take-one .kept .1 .1 .1 .1 .1 .1 .1 .0) (c .before .before .before .before .before .before .take-one .kept .1 .1 .1 .1 .1 .0) (c .before .before .before .before .before .before .take-one .kept .1 .1 .1 .1 .1 .1 .0)
+loop-again c =
+    let the-loop = c .before .before .before .before .before .before .before .before .before .before .before .loop in
+    let the-take-one = c .before .before .before .before .before .before .take-one in
+    running-on _ _ _ _ _ _ _ _ _ _ _ _ _ (the-loop .inv) _ _ _ _ (the-take-one .ensures .0) (the-take-one .ensures .1) (the-take-one .kept .1 .1 .1 .1 .1 .1 .1 .0) (the-take-one .kept .1 .1 .1 .1 .1 .0) (the-take-one .kept .1 .1 .1 .1 .1 .1 .0)
 
 same-length : tie.Need-same-length Inv-loop μ-loop
 same-length c = c .before .loop .inv .heap-long

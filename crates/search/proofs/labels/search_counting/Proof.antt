@@ -11,28 +11,52 @@ clear-labels-requires : tie.Need-clear-labels-requires
 clear-labels-requires c κs = search needs
 
 mul-labels : tie.Need-mul-labels
-mul-labels c = omega (arith, c .before .before .before .before .before .before .before .before .before .before .before .pre .node, c .before .before .before .before .before .before .before .before .before .before .before .pre .room, c .before .before .before .before .before .before .before .before .before .before .before .pre .sound .sized .most)
+mul-labels c =
+    let start = c .before .before .before .before .before .before .before .before .before .before .before in
+    omega (arith, start .pre .node, start .pre .room, start .pre .sound .sized .most)
 
 slice-write-labels : tie.Need-slice-write-labels
-slice-write-labels c = omega (arith, c .before .before .before .before .before .before .before .before .before .before .before .pre .node, c .before .before .before .before .before .before .before .before .before .before .before .pre .room, c .before .before .clear-labels .kept .0)
+slice-write-labels c =
+    let start = c .before .before .before .before .before .before .before .before .before .before .before in
+    omega (arith, start .pre .node, start .pre .room, c .before .before .clear-labels .kept .0)
 
 add-requires : tie.Need-add-requires
-add-requires c κs = (queue-empty _ _ _ _ _ _ _ _ (c .before .before .before .before .before .before .before .before .before .before .before .before .before .before .pre), (simp length-set (omega (arith, c .before .before .before .before .before .before .before .before .before .before .before .before .before .before .pre .room, c .before .before .before .before .before .clear-labels .kept .0, places-long _ _ _ _ _ _ _ _ (c .before .before .before .before .before .before .before .before .before .before .before .before .before .before .pre))), (omega (arith, c .before .before .before .before .before .before .before .before .before .before .before .before .before .before .pre .node, places-long _ _ _ _ _ _ _ _ (c .before .before .before .before .before .before .before .before .before .before .before .before .before .before .pre)), source-idle _ _ _ _ _ _ _ _ (c .before .before .before .before .before .before .before .before .before .before .before .before .before .before .pre))))
+add-requires c κs =
+    let start = c .before .before .before .before .before .before .before .before .before .before .before .before .before .before in
+    let the-clear-labels = c .before .before .before .before .before .clear-labels in
+    (queue-empty _ _ _ _ _ _ _ _ (start .pre), (simp length-set (omega (arith, start .pre .room, the-clear-labels .kept .0, places-long _ _ _ _ _ _ _ _ (start .pre))), (omega (arith, start .pre .node, places-long _ _ _ _ _ _ _ _ (start .pre)), source-idle _ _ _ _ _ _ _ _ (start .pre))))
 
 run-requires : tie.Need-run-requires
-run-requires c κs = (going-first _ _ _ _ _ _ _ _ (c .before .before .before .before .before .before .before .before .before .before .before .before .before .before .before .before .before .before .before .before .before .before .pre) (c .before .before .before .before .before .before .before .before .before .before .before .before .before .clear-labels .last .0) _ _ (c .before .before .before .before .before .before .before .before .before .before .before .before .before .clear-labels .ensures) (c .before .before .before .before .before .before .before .add .ensures .0) (c .before .before .before .before .before .before .before .add .ensures .1), c .before .before .before .before .before .before .before .before .before .before .before .before .before .before .before .before .before .before .before .before .before .before .pre .bytes)
+run-requires c κs =
+    let start = c .before .before .before .before .before .before .before .before .before .before .before .before .before .before .before .before .before .before .before .before .before .before in
+    let the-clear-labels = c .before .before .before .before .before .before .before .before .before .before .before .before .before .clear-labels in
+    let the-add = c .before .before .before .before .before .before .before .add in
+    (going-first _ _ _ _ _ _ _ _ (start .pre) (the-clear-labels .last .0) _ _ (the-clear-labels .ensures) (the-add .ensures .0) (the-add .ensures .1), start .pre .bytes)
 
 same-length : tie.Need-same-length
-same-length c = c .before .before .before .before .before .before .run .kept .1 .1 .1 .1 .1 .1 .1 .0 ∙ simp length-set (c .before .before .before .before .before .before .before .before .before .before .before .before .before .before .before .before .before .before .before .before .clear-labels .kept .0)
+same-length c =
+    let the-clear-labels = c .before .before .before .before .before .before .before .before .before .before .before .before .before .before .before .before .before .before .before .before .clear-labels in
+    let the-run = c .before .before .before .before .before .before .run in
+    the-run .kept .1 .1 .1 .1 .1 .1 .1 .0 ∙ simp length-set (the-clear-labels .kept .0)
 
 same-length-2 : tie.Need-same-length-2
-same-length-2 c = c .before .before .before .before .before .before .run .kept .1 .1 .1 .1 .1 .0 ∙ c .before .before .before .before .before .before .before .before .before .before .before .before .before .before .add .kept .0
+same-length-2 c =
+    let the-add = c .before .before .before .before .before .before .before .before .before .before .before .before .before .before .add in
+    let the-run = c .before .before .before .before .before .before .run in
+    the-run .kept .1 .1 .1 .1 .1 .0 ∙ the-add .kept .0
 
 same-length-3 : tie.Need-same-length-3
-same-length-3 c = c .before .before .before .before .before .before .run .kept .1 .1 .1 .1 .1 .1 .0 ∙ c .before .before .before .before .before .before .before .before .before .before .before .before .before .before .add .kept .1 .0
+same-length-3 c =
+    let the-add = c .before .before .before .before .before .before .before .before .before .before .before .before .before .before .add in
+    let the-run = c .before .before .before .before .before .before .run in
+    the-run .kept .1 .1 .1 .1 .1 .1 .0 ∙ the-add .kept .1 .0
 
 returns : tie.Need-returns
-returns c = (row-of _ _ _ _ _ _ _ _ (c .before .before .before .before .before .before .run .ensures), (heap-empty _ _ _ _ _ _ _ _ (c .before .before .before .before .before .before .run .ensures) _ (c .before .before .before .before .before .before .run .kept .1 .1 .1 .1 .1 .0 ∙ c .before .before .before .before .before .before .before .before .before .before .before .before .before .before .add .kept .0) ∙ sym (c .before .before .before .before .before .before .before .before .before .before .before .before .before .before .before .before .before .before .before .before .before .before .before .before .before .before .before .before .before .pre .heap-zero), places-empty _ _ _ _ _ _ _ _ (c .before .before .before .before .before .before .run .ensures) _ (c .before .before .before .before .before .before .run .kept .1 .1 .1 .1 .1 .1 .0 ∙ c .before .before .before .before .before .before .before .before .before .before .before .before .before .before .add .kept .1 .0 ∙ places-long _ _ _ _ _ _ _ _ (c .before .before .before .before .before .before .before .before .before .before .before .before .before .before .before .before .before .before .before .before .before .before .before .before .before .before .before .before .before .pre)) ∙ sym (c .before .before .before .before .before .before .before .before .before .before .before .before .before .before .before .before .before .before .before .before .before .before .before .before .before .before .before .before .before .pre .places-zero)))
+returns c =
+    let start = c .before .before .before .before .before .before .before .before .before .before .before .before .before .before .before .before .before .before .before .before .before .before .before .before .before .before .before .before .before in
+    let the-add = c .before .before .before .before .before .before .before .before .before .before .before .before .before .before .add in
+    let the-run = c .before .before .before .before .before .before .run in
+    (row-of _ _ _ _ _ _ _ _ (the-run .ensures), (heap-empty _ _ _ _ _ _ _ _ (the-run .ensures) _ (the-run .kept .1 .1 .1 .1 .1 .0 ∙ the-add .kept .0) ∙ sym (start .pre .heap-zero), places-empty _ _ _ _ _ _ _ _ (the-run .ensures) _ (the-run .kept .1 .1 .1 .1 .1 .1 .0 ∙ the-add .kept .1 .0 ∙ places-long _ _ _ _ _ _ _ _ (start .pre)) ∙ sym (start .pre .places-zero)))
 
 pub search-counting-spec : {M : Type 1} → statement M
 search-counting-spec =

@@ -46,7 +46,18 @@ clear-requires-2 : tie.Need-clear-requires-2
 clear-requires-2 c κs = search needs
 
 search-counting-requires : tie.Need-search-counting-requires
-search-counting-requires c κs = ready _ _ _ _ _ _ _ _ (rw (c .before .before .before .before .before .before .before .before .before .before .before .before .before .before .before .before .before .before .before .overlay-limits .ensures) at (c .before .before .before .before .before .before .before .before .before .before .before .before .before .before .before .before .before .before .check-graph .ensures)) (c .before .before .before .before .before .before .before .before .before .before .before .before .before .before .before .before .enum-told .given .1) _ _ _ (c .before .before .before .before .before .before .before .before .before .before .before .before .before .before .before .node-count .ensures) (c .before .before .before .before .before .before .before .before .before .before .before .before .before .before .if1 .left) (c .before .before .before .before .before .before .before .before .before .before .before .before .before .if2 .left) (c .before .before .before .before .before .before .before .before .before .before .before .before .if3 .left) (c .before .before .before .before .before .before .before .before .before .before .before .if4 .left) (c .before .before .before .before .before .before .before .before .before .clear .ensures) (c .before .before .before .before .before .clear2 .ensures)
+search-counting-requires c κs =
+    let the-overlay-limits = c .before .before .before .before .before .before .before .before .before .before .before .before .before .before .before .before .before .before .before .overlay-limits in
+    let the-check-graph = c .before .before .before .before .before .before .before .before .before .before .before .before .before .before .before .before .before .before .check-graph in
+    let the-enum-told = c .before .before .before .before .before .before .before .before .before .before .before .before .before .before .before .before .enum-told in
+    let the-node-count = c .before .before .before .before .before .before .before .before .before .before .before .before .before .before .before .node-count in
+    let the-if1 = c .before .before .before .before .before .before .before .before .before .before .before .before .before .before .if1 in
+    let the-if2 = c .before .before .before .before .before .before .before .before .before .before .before .before .before .if2 in
+    let the-if3 = c .before .before .before .before .before .before .before .before .before .before .before .before .if3 in
+    let the-if4 = c .before .before .before .before .before .before .before .before .before .before .before .if4 in
+    let the-clear = c .before .before .before .before .before .before .before .before .before .clear in
+    let the-clear2 = c .before .before .before .before .before .clear2 in
+    ready _ _ _ _ _ _ _ _ (rw (the-overlay-limits .ensures) at (the-check-graph .ensures)) (the-enum-told .given .1) _ _ _ (the-node-count .ensures) (the-if1 .left) (the-if2 .left) (the-if3 .left) (the-if4 .left) (the-clear .ensures) (the-clear2 .ensures)
 
 slice-aggregate-write-all-2 : tie.Need-slice-aggregate-write-all-2
 slice-aggregate-write-all-2 c = search needs

@@ -27,7 +27,9 @@ array-read-if1 : tie.Need-array-read-if1 Inv-loop μ-loop
 array-read-if1 c = search needs
 
 returns : tie.Need-returns Inv-loop μ-loop
-returns c = tells-yes (met _ _ _ (simp length-map at (c .before .before .before .before .good .0 .1 .1 .0 .1 .0 .1)) (c .before .before .before .before .pre) _ (omega arith) (c .if1 .taken))
+returns c =
+    let start = c .before .before .before .before in
+    tells-yes (met _ _ _ (simp length-map at (start .good .0 .1 .1 .0 .1 .0 .1)) (start .pre) _ (omega arith) (c .if1 .taken))
 
 loop-less : tie.Need-loop-less Inv-loop μ-loop
 loop-less c = search needs

@@ -62,7 +62,9 @@ wide-requires-2 : (t : ℕ) → longest-lts.Need-wide-requires-2 (calls t) (long
 wide-requires-2 t c κs = search needs
 
 loop-holds : (t : ℕ) → longest-lts.Need-loop-holds (calls t) (longest-at t) longest.Post Inv μ
-loop-holds t c = best-none _ _ _ _ _ _ _ _ (c .wide2 .ensures) (omega (arith, c .before .before .before .before .before .before .before .before .before .pre .1 .0 .rising .rises (c .before .before .before .before .before .before .before .before .before .args .last) (row-bounds _ _ _ _ (c .before .before .before .before .before .before .before .before .before .pre .1 .0) (c .before .before .before .before .before .before .before .before .before .pre .1 .1 .0))))
+loop-holds t c =
+    let start = c .before .before .before .before .before .before .before .before .before in
+    best-none _ _ _ _ _ _ _ _ (c .wide2 .ensures) (omega (arith, start .pre .1 .0 .rising .rises (start .args .last) (row-bounds _ _ _ _ (start .pre .1 .0) (start .pre .1 .1 .0))))
 
 mul-v : (t : ℕ) → longest-lts.Need-mul-v (calls t) (longest-at t) longest.Post Inv μ
 mul-v t c = scaled-fits _ _ 4 (place-listed _ _ _ _ _ (c .before .before .before .before .before .before .before .before .before .before .before .pre .1 .0) (c .before .loop .inv .from) (omega arith)) (search needs)
@@ -83,7 +85,11 @@ sub-t26 : (t : ℕ) → longest-lts.Need-sub-t26 (calls t) (longest-at t) longes
 sub-t26 t c = search needs
 
 again-requires : (t : ℕ) → longest-lts.Need-longest-requires (calls t) (longest-at t) longest.Post Inv μ
-again-requires t c κs = (omega (arith, c .before .before .before .before .before .before .before .before .before .before .before .before .before .before .before .before .before .before .pre .0, c .before .before .before .before .before .before .before .before .before .before .before .before .before .if1 .left), (c .before .before .before .before .before .before .before .before .before .before .before .before .before .before .before .before .before .before .pre .1 .0, (omega (arith, head-node _ _ _ _ _ (c .before .before .before .before .before .before .before .before .before .before .before .before .before .before .before .before .before .before .pre .1 .0) (c .before .before .before .before .before .before .before .before .loop .inv .from) (omega arith), c .before .wide3 .ensures), omega (arith, c .before .before .before .before .before .before .before .before .before .before .before .before .before .before .before .before .before .before .pre .1 .1 .1, c .before .before .before .before .before .before .before .before .before .before .before .before .before .if1 .left, c .before .before .before .push .ensures .longer (omega (arith, c .before .before .before .before .before .before .before .before .before .before .before .before .before .before .before .before .before .before .pre .1 .1 .1, c .before .before .before .before .before .before .before .before .before .before .before .before .before .if1 .left)) .2))))
+again-requires t c κs =
+    let start = c .before .before .before .before .before .before .before .before .before .before .before .before .before .before .before .before .before .before in
+    let the-if1 = c .before .before .before .before .before .before .before .before .before .before .before .before .before .if1 in
+    let the-loop = c .before .before .before .before .before .before .before .before .loop in
+    (omega (arith, start .pre .0, the-if1 .left), (start .pre .1 .0, (omega (arith, head-node _ _ _ _ _ (start .pre .1 .0) (the-loop .inv .from) (omega arith), c .before .wide3 .ensures), omega (arith, start .pre .1 .1 .1, the-if1 .left, c .before .before .before .push .ensures .longer (omega (arith, start .pre .1 .1 .1, the-if1 .left)) .2))))
 
 add-larger : (t : ℕ) → longest-lts.Need-add-larger (calls t) (longest-at t) longest.Post Inv μ
 add-larger t c = omega (arith, c .before .longest .ensures .short, c .before .before .before .before .before .before .before .before .before .before .before .before .before .before .before .before .before .before .before .before .pre .1 .1 .1)
@@ -93,9 +99,19 @@ larger-requires t c κs = search needs
 
 returns-2 : (t : ℕ) → longest-lts.Need-returns-2 (calls t) (longest-at t) longest.Post Inv μ
 returns-2 t c =
-    longest-most _ _ _ _ _ _ (c .before .before .before .before .before .before .before .before .before .before .before .before .before .before .before .before .wide .result) _ (c .if3 .taken)
-    (best-short _ _ _ _ _ _ _ _ _ (c .before .before .before .before .before .before .before .before .before .before .before .before .before .loop .inv) (c .before .before .before .before .before .before .before .before .before .before .before .before .loop-test .taken) (c .before .before .before .before .before .before .before .before .before .before .before .before .before .before .before .before .before .before .before .before .before .before .before .pre .1 .0 .rising) (c .before .before .before .before .before .before .before .before .before .before .before .before .before .before .before .before .wide .ensures) (c .before .before .before .before .before .before .before .before .before .before .before .before .before .before .before .before .before .before .if1 .left) (c .before .before .before .before .before .before .before .before .before .before .is-free .ensures .yes (c .before .before .before .before .before .before .before .before .before .if2 .taken)) _ _ (longest-carried _ _ _ (onTrail (c .before .before .before .before .before .before .before .before .before .before .before .before .before .before .before .before .before .before .before .before .before .before .before .args .t)) _ _ _ _ _ (c .before .before .before .before .before .before .before .before .push .ensures .longer (omega (arith, c .before .before .before .before .before .before .before .before .before .before .before .before .before .before .before .before .before .before .before .before .before .before .before .pre .1 .1 .1, c .before .before .before .before .before .before .before .before .before .before .before .before .before .before .before .before .before .before .if1 .left)) .1) (c .before .before .before .before .before .before .wide3 .ensures) (c .before .before .before .before .longest .ensures)) (c .before .before .larger .ensures))
-    (best-reached _ _ _ _ _ _ _ _ _ (c .before .before .before .before .before .before .before .before .before .before .before .before .before .loop .inv) (c .before .before .before .before .before .before .before .before .before .before .before .before .loop-test .taken) (c .before .before .before .before .before .before .before .before .before .before .before .before .before .before .before .before .before .before .before .before .before .before .before .pre .1 .0 .rising) (c .before .before .before .before .before .before .before .before .before .before .before .before .before .before .before .before .wide .ensures) (c .before .before .before .before .before .before .before .before .before .before .before .before .before .before .before .before .before .before .if1 .left) (c .before .before .before .before .before .before .before .before .before .before .is-free .ensures .yes (c .before .before .before .before .before .before .before .before .before .if2 .taken)) _ _ (longest-carried _ _ _ (onTrail (c .before .before .before .before .before .before .before .before .before .before .before .before .before .before .before .before .before .before .before .before .before .before .before .args .t)) _ _ _ _ _ (c .before .before .before .before .before .before .before .before .push .ensures .longer (omega (arith, c .before .before .before .before .before .before .before .before .before .before .before .before .before .before .before .before .before .before .before .before .before .before .before .pre .1 .1 .1, c .before .before .before .before .before .before .before .before .before .before .before .before .before .before .before .before .before .before .if1 .left)) .1) (c .before .before .before .before .before .before .wide3 .ensures) (c .before .before .before .before .longest .ensures)) (c .before .before .larger .ensures))
+    let start = c .before .before .before .before .before .before .before .before .before .before .before .before .before .before .before .before .before .before .before .before .before .before .before in
+    let the-if1 = c .before .before .before .before .before .before .before .before .before .before .before .before .before .before .before .before .before .before .if1 in
+    let the-wide = c .before .before .before .before .before .before .before .before .before .before .before .before .before .before .before .before .wide in
+    let the-loop = c .before .before .before .before .before .before .before .before .before .before .before .before .before .loop in
+    let the-loop-test = c .before .before .before .before .before .before .before .before .before .before .before .before .loop-test in
+    let the-is-free = c .before .before .before .before .before .before .before .before .before .before .is-free in
+    let the-if2 = c .before .before .before .before .before .before .before .before .before .if2 in
+    let the-push = c .before .before .before .before .before .before .before .before .push in
+    let the-wide3 = c .before .before .before .before .before .before .wide3 in
+    let the-longest = c .before .before .before .before .longest in
+    longest-most _ _ _ _ _ _ (the-wide .result) _ (c .if3 .taken)
+    (best-short _ _ _ _ _ _ _ _ _ (the-loop .inv) (the-loop-test .taken) (start .pre .1 .0 .rising) (the-wide .ensures) (the-if1 .left) (the-is-free .ensures .yes (the-if2 .taken)) _ _ (longest-carried _ _ _ (onTrail (start .args .t)) _ _ _ _ _ (the-push .ensures .longer (omega (arith, start .pre .1 .1 .1, the-if1 .left)) .1) (the-wide3 .ensures) (the-longest .ensures)) (c .before .before .larger .ensures))
+    (best-reached _ _ _ _ _ _ _ _ _ (the-loop .inv) (the-loop-test .taken) (start .pre .1 .0 .rising) (the-wide .ensures) (the-if1 .left) (the-is-free .ensures .yes (the-if2 .taken)) _ _ (longest-carried _ _ _ (onTrail (start .args .t)) _ _ _ _ _ (the-push .ensures .longer (omega (arith, start .pre .1 .1 .1, the-if1 .left)) .1) (the-wide3 .ensures) (the-longest .ensures)) (c .before .before .larger .ensures))
 
 add-i : (t : ℕ) → longest-lts.Need-add-i (calls t) (longest-at t) longest.Post Inv μ
 add-i t c = search needs
@@ -105,13 +121,19 @@ loop-less t c = search needs
 
 loop-again : (t : ℕ) → longest-lts.Need-loop-again (calls t) (longest-at t) longest.Post Inv μ
 loop-again t c =
+    let start = c .before .before .before .before .before .before .before .before .before .before .before .before .before .before in
+    let the-if1 = c .before .before .before .before .before .before .before .before .before .if1 in
+    let the-wide = c .before .before .before .before .before .before .before .wide in
+    let the-loop = c .before .before .before .before .loop in
     ⊎-elim
-    (λ w. rw (w .10) (best-met _ _ _ _ _ _ _ _ _ (c .before .before .before .before .loop .inv) (c .before .before .before .loop-test .taken) (c .before .before .before .before .before .before .before .before .before .before .before .before .before .before .pre .1 .0 .rising) (c .before .before .before .before .before .before .before .wide .ensures) (c .before .before .before .before .before .before .before .before .before .if1 .left) (c .before .is-free .ensures .yes (w .0 .taken)) _ _ (longest-carried _ _ _ (onTrail (c .before .before .before .before .before .before .before .before .before .before .before .before .before .before .args .t)) _ _ _ _ _ (w .1 .ensures .longer (omega (arith, c .before .before .before .before .before .before .before .before .before .before .before .before .before .before .pre .1 .1 .1, c .before .before .before .before .before .before .before .before .before .if1 .left)) .1) (w .3 .ensures) (w .5 .ensures)) (w .7 .ensures)))
-    (λ w. rw (w .1) (best-missed _ _ _ _ _ _ _ _ _ (c .before .before .before .before .loop .inv) (c .before .before .before .loop-test .taken) (c .before .is-free .ensures .no (w .0 .left))))
+    (λ w. rw (w .10) (best-met _ _ _ _ _ _ _ _ _ (the-loop .inv) (c .before .before .before .loop-test .taken) (start .pre .1 .0 .rising) (the-wide .ensures) (the-if1 .left) (c .before .is-free .ensures .yes (w .0 .taken)) _ _ (longest-carried _ _ _ (onTrail (start .args .t)) _ _ _ _ _ (w .1 .ensures .longer (omega (arith, start .pre .1 .1 .1, the-if1 .left)) .1) (w .3 .ensures) (w .5 .ensures)) (w .7 .ensures)))
+    (λ w. rw (w .1) (best-missed _ _ _ _ _ _ _ _ _ (the-loop .inv) (c .before .before .before .loop-test .taken) (c .before .is-free .ensures .no (w .0 .left))))
     (c .if2 .came)
 
 returns-3 : (t : ℕ) → longest-lts.Need-returns-3 (calls t) (longest-at t) longest.Post Inv μ
-returns-3 t c = best-is _ _ _ _ _ _ (c .before .before .before .before .wide .result) _ (best-at _ _ _ _ _ _ _ _ _ _ (omega (arith, c .before .loop .inv .to)) (c .before .loop .inv)) (c .before .before .before .before .wide .ensures)
+returns-3 t c =
+    let the-wide = c .before .before .before .before .wide in
+    best-is _ _ _ _ _ _ (the-wide .result) _ (best-at _ _ _ _ _ _ _ _ _ _ (omega (arith, c .before .loop .inv .to)) (c .before .loop .inv)) (the-wide .ensures)
 
 pub +longest-spec : {M : Type 1} → statement M
 +longest-spec = close μ-longest λ t. longest-lts.spec (calls t)
