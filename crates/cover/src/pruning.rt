@@ -61,15 +61,15 @@ fn too_few(cover: &[u8], k: NodeCount) -> bool
     ensures { λ r. ⌜ Few r (now (cover .entry)) (k .0) ⌝ }
 {
     let mut nodes = 1;
-    let mut i = 0;
-    while i < cover.len() {
+    let mut v = 0;
+    while v < cover.len() {
         if k.0 <= nodes {
             return false;
         }
-        if cover[i] == 0 {
+        if cover[v] == 0 {
             nodes += 1;
         }
-        i += 1;
+        v += 1;
     }
     if nodes < k.0 {
         return true;

@@ -13,10 +13,10 @@ use Rattle.cover.proofs.pruning.too_few.Reads as reads
 use Rattle.cover.proofs.pruning.too_few.Lts as lts
 
 abbrev Inv-loop : tie.InvT-loop
-Inv-loop cover k nodes₀ i₀ nodes i = (nodes ≡ times 0 (take i cover) + 1) × (i ≤ length cover) × (nodes ≤ i + 1)
+Inv-loop cover k nodes₀ v₀ nodes v = (nodes ≡ times 0 (take v cover) + 1) × (v ≤ length cover) × (nodes ≤ v + 1)
 
 abbrev μ-loop : tie.MeasureT-loop
-μ-loop cover k nodes₀ i₀ nodes i = length cover - i
+μ-loop cover k nodes₀ v₀ nodes v = length cover - v
 
 -- src/pruning.rt:65:5
 loop-holds : tie.Need-loop-holds Inv-loop μ-loop
@@ -37,8 +37,8 @@ add-nodes : tie.Need-add-nodes Inv-loop μ-loop
 add-nodes c = search needs
 
 -- src/pruning.rt:72:9
-add-i : tie.Need-add-i Inv-loop μ-loop
-add-i c = search needs
+add-v : tie.Need-add-v Inv-loop μ-loop
+add-v c = search needs
 
 -- src/pruning.rt:65:5
 loop-less : tie.Need-loop-less Inv-loop μ-loop
@@ -51,15 +51,15 @@ loop-again c =
     let the-loop = c .before .before .before .before .before .loop in
     let the-loop-test = c .before .before .before .before .loop-test in
     ⊎-elim
-    (λ w. (omega (arith, the-loop .inv .0, times-met (start .args .cover .now) (the-loop .i) 0 (the-loop-test .taken) (w .0 .taken)), omega arith, omega arith))
-    (λ w. (omega (arith, the-loop .inv .0, times-missed (start .args .cover .now) (the-loop .i) 0 (the-loop-test .taken) (w .0 .left)), omega arith, omega arith))
+    (λ w. (omega (arith, the-loop .inv .0, times-met (start .args .cover .now) (the-loop .v) 0 (the-loop-test .taken) (w .0 .taken)), omega arith, omega arith))
+    (λ w. (omega (arith, the-loop .inv .0, times-missed (start .args .cover .now) (the-loop .v) 0 (the-loop-test .taken) (w .0 .left)), omega arith, omega arith))
     (c .if2 .came)
 
 -- src/pruning.rt:75:9
 returns-2 : tie.Need-returns-2 Inv-loop μ-loop
 returns-2 c =
     let start = c .before .before .before .before in
-    counted-few (start .args .cover .now) (start .args .k .0) (c .before .before .before .loop .nodes) (c .before .before .before .loop .i) (c .before .before .before .loop .inv .0) (omega (arith, c .before .before .loop-test .left)) (c .if3 .taken)
+    counted-few (start .args .cover .now) (start .args .k .0) (c .before .before .before .loop .nodes) (c .before .before .before .loop .v) (c .before .before .before .loop .inv .0) (omega (arith, c .before .before .loop-test .left)) (c .if3 .taken)
 
 -- src/pruning.rt:60:1
 returns-3 : tie.Need-returns-3 Inv-loop μ-loop
@@ -77,7 +77,7 @@ too-few-spec =
     returns
     shared-slice-read-if2
     add-nodes
-    add-i
+    add-v
     loop-less
     loop-again
     returns-2
