@@ -265,7 +265,7 @@ static std::pair<Graph, uint32_t> larger_map() {
   case 0: return {maps::chain(n, true, chance(2), draw), 32};
   case 1: return {maps::chain(n, false, chance(2), draw), 32};
   case 2: return {maps::fan(between(1, 30), between(1, 30), chance(2), draw), 5};
-  case 3: return {maps::scattered(between(2, 40), 100, draw), 32};
+  case 3: return {maps::scattered(between(2, 40), 100, draw), 8};
   case 4: return {maps::scattered(between(8, 60), between(0, 6), draw), 7};
   case 5: return {maps::grid(between(2, 10), between(2, 10), draw), 16};
   default: return {maps::road_like(n, draw), 32};
