@@ -57,7 +57,8 @@ typedef struct gulvane_count {
   size_t count;
 } gulvane_count;
 
-/* A distance, or a refusal: where refusal is 0, way is 1 and weight the weight, or both are 0 for no way. */
+/* A distance, or a refusal: where refusal is 0, way is 1 and weight the weight, or both are 0
+   for no way; beside a refusal both are 0 too. */
 typedef struct gulvane_distance {
   uint32_t refusal;
   uint32_t way;
