@@ -9,7 +9,7 @@
  * pointer that is not NULL. No slice that a call writes may overlap another that it is lent.
  *
  * A graph of n nodes and m arcs is three slices: n + 1 starts, m heads, m weights. The arcs with
- * tail v are at the places starts[v] up to, but not including, starts[v + 1], heads ascending.
+ * tail v are at the places starts[v] up to, but not including, starts[v + 1], heads strictly ascending.
  */
 #ifndef GULVANE_H
 #define GULVANE_H
@@ -30,7 +30,7 @@ extern "C" {
 #define GULVANE_MOST_K 32u
 #define GULVANE_MOST_DRIVE 4096u
 
-/* The lengths of work slices, of n nodes and m road arcs. */
+/* Lengths of slices that depend on n, the number of nodes. */
 #define GULVANE_HEAP(n) (2 * (size_t)(n))
 #define GULVANE_STARTS(n) ((size_t)(n) + 1)
 

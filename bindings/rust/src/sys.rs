@@ -1,56 +1,111 @@
 //! The archive's functions, as `gulvane.h` declares them.
 
+use crate::Refusal;
+
 #[repr(C)]
-#[derive(Clone, Copy)]
 pub struct Count {
-    pub refusal: u32,
-    pub count: usize,
+    refusal: u32,
+    count: usize,
+}
+
+impl Count {
+    pub fn answer(self) -> Result<usize, Refusal> {
+        match self.refusal {
+            0 => Ok(self.count),
+            number => Err(Refusal::of(number)),
+        }
+    }
 }
 
 #[repr(C)]
-#[derive(Clone, Copy)]
 pub struct Distance {
-    pub refusal: u32,
-    pub way: u32,
-    pub weight: u64,
+    refusal: u32,
+    way: u32,
+    weight: u64,
 }
 
-#[link(name = "gulvane", kind = "static")]
-extern "C" {
-    pub fn gulvane_cover(
-        starts: *const u32, starts_len: usize, heads: *const u32, heads_len: usize, weights: *const u32, weights_len: usize,
-        k: usize, order: *const u32, order_len: usize, points: *mut u8, points_len: usize,
-        starts_back: *mut u32, starts_back_len: usize, heads_back: *mut u32, heads_back_len: usize,
-        weights_back: *mut u32, weights_back_len: usize, marks: *mut u8, marks_len: usize,
-        pieces: *mut u32, pieces_len: usize, sizes: *mut u32, sizes_len: usize,
+impl Distance {
+    pub fn answer(self) -> Result<Option<u64>, Refusal> {
+        match (self.refusal, self.way) {
+            (0, 0) => Ok(None),
+            (0, _) => Ok(Some(self.weight)),
+            (number, _) => Err(Refusal::of(number)),
+        }
+    }
+}
+
+/// Declares each function as the archive has it, a slice as a pointer and a length, and as a safe
+/// function of slices.
+macro_rules! archive {
+    ($(fn $name:ident($($arg:ident: $($value:ident)? $(&[$lent:ty])? $(&mut [$filled:ty])?),* $(,)?) -> $answer:ty;)*) => {
+        mod raw {
+            use super::{Count, Distance};
+
+            #[link(name = "gulvane", kind = "static")]
+            extern "C" {
+                $(pub fn $name(
+                    $($($arg: $value,)? $($arg: *const $lent, _: usize,)? $($arg: *mut $filled, _: usize,)?)*
+                ) -> $answer;)*
+            }
+        }
+
+        $(#[allow(clippy::too_many_arguments)]
+        pub fn $name($($arg: $($value)? $(&[$lent])? $(&mut [$filled])?),*) -> $answer {
+            // Safe: it takes slices of any length and contents, none NULL, and none that it writes
+            // overlaps another.
+            unsafe {
+                raw::$name(
+                    $($($arg as $value,)?
+                      $($arg.as_ptr() as *const $lent, $arg.len(),)?
+                      $($arg.as_mut_ptr() as *mut $filled, $arg.len(),)?)*
+                )
+            }
+        })*
+    };
+}
+
+archive! {
+    fn gulvane_cover(
+        starts: &[u32], heads: &[u32], weights: &[u32], k: usize, order: &[u32], points: &mut [u8],
+        starts_back: &mut [u32], heads_back: &mut [u32], weights_back: &mut [u32],
+        marks: &mut [u8], pieces: &mut [u32], sizes: &mut [u32],
     ) -> Count;
 
-    pub fn gulvane_overlay(
-        starts: *const u32, starts_len: usize, heads: *const u32, heads_len: usize, weights: *const u32, weights_len: usize,
-        set: *const u8, set_len: usize, over_starts: *mut u32, over_starts_len: usize, over_heads: *mut u32, over_heads_len: usize,
-        over_weights: *mut u32, over_weights_len: usize, labels: *mut u64, labels_len: usize, heap: *mut u32, heap_len: usize,
-        places: *mut u32, places_len: usize, touched: *mut u32, touched_len: usize,
+    fn gulvane_overlay(
+        starts: &[u32], heads: &[u32], weights: &[u32], set: &[u8],
+        over_starts: &mut [u32], over_heads: &mut [u32], over_weights: &mut [u32],
+        labels: &mut [u64], heap: &mut [u32], places: &mut [u32], touched: &mut [u32],
     ) -> Count;
 
-    pub fn gulvane_handheld(
-        set: *const u8, set_len: usize, over_starts: *const u32, over_starts_len: usize, over_heads: *const u32, over_heads_len: usize,
-        over_weights: *const u32, over_weights_len: usize, s: u32, t: u32, labels: *mut u64, labels_len: usize,
-        heap: *mut u32, heap_len: usize, places: *mut u32, places_len: usize, touched: *mut u32, touched_len: usize,
-        blocked: *mut u8, blocked_len: usize,
+    fn gulvane_handheld(
+        set: &[u8], over_starts: &[u32], over_heads: &[u32], over_weights: &[u32], s: u32, t: u32,
+        labels: &mut [u64], heap: &mut [u32], places: &mut [u32], touched: &mut [u32], blocked: &mut [u8],
     ) -> Distance;
 
-    pub fn gulvane_any_pair(
-        starts: *const u32, starts_len: usize, heads: *const u32, heads_len: usize, weights: *const u32, weights_len: usize,
-        set: *const u8, set_len: usize, over_starts: *const u32, over_starts_len: usize, over_heads: *const u32, over_heads_len: usize,
-        over_weights: *const u32, over_weights_len: usize, s: u32, t: u32, starts_back: *mut u32, starts_back_len: usize,
-        heads_back: *mut u32, heads_back_len: usize, weights_back: *mut u32, weights_back_len: usize,
-        outward: *mut u64, outward_len: usize, inward: *mut u64, inward_len: usize, labels: *mut u64, labels_len: usize,
-        heap: *mut u32, heap_len: usize, places: *mut u32, places_len: usize, touched: *mut u32, touched_len: usize,
-        blocked: *mut u8, blocked_len: usize,
+    fn gulvane_any_pair(
+        starts: &[u32], heads: &[u32], weights: &[u32],
+        set: &[u8], over_starts: &[u32], over_heads: &[u32], over_weights: &[u32], s: u32, t: u32,
+        starts_back: &mut [u32], heads_back: &mut [u32], weights_back: &mut [u32],
+        outward: &mut [u64], inward: &mut [u64],
+        labels: &mut [u64], heap: &mut [u32], places: &mut [u32], touched: &mut [u32], blocked: &mut [u8],
     ) -> Distance;
 
-    pub fn gulvane_thin(
-        starts: *const u32, starts_len: usize, heads: *const u32, heads_len: usize, weights: *const u32, weights_len: usize,
-        set: *const u8, set_len: usize, drive: *const u32, drive_len: usize, positions: *mut u32, positions_len: usize,
+    fn gulvane_thin(
+        starts: &[u32], heads: &[u32], weights: &[u32], set: &[u8], drive: &[u32], positions: &mut [u32],
     ) -> Count;
+}
+
+#[cfg(test)]
+mod tests {
+    use super::{Count, Distance};
+    use crate::Refusal;
+
+    #[test]
+    fn an_answer_is_no_refusal_and_no_number_is_lost() {
+        assert_eq!(Count { refusal: 0, count: 3 }.answer(), Ok(3));
+        assert_eq!(Count { refusal: 14, count: 0 }.answer(), Err(Refusal::Unknown(14)));
+        assert_eq!(Distance { refusal: 0, way: 0, weight: 0 }.answer(), Ok(None));
+        assert_eq!(Distance { refusal: 0, way: 1, weight: 0 }.answer(), Ok(Some(0)));
+        assert_eq!(Distance { refusal: 14, way: 0, weight: 0 }.answer(), Err(Refusal::Unknown(14)));
+    }
 }

@@ -1,4 +1,4 @@
-//! The small graphs of the requirements, and each refusal that the wrapper can give.
+//! The small graphs of the requirements.
 use gulvane::{NodeSet, Overlay, Refusal, RoadGraph};
 
 fn line() -> RoadGraph {
@@ -31,8 +31,17 @@ fn covers() {
 }
 
 #[test]
+fn sets() {
+    let set = NodeSet::new(5, &[3, 1, 3]).unwrap();
+    assert_eq!((set.node_count(), set.len(), set.is_empty()), (5, 2, false));
+    assert_eq!(set.nodes().collect::<Vec<_>>(), [1, 3]);
+    assert!(set.contains(3) && !set.contains(2) && !set.contains(u32::MAX));
+    assert!(NodeSet::new(5, &[]).unwrap().is_empty());
+}
+
+#[test]
 fn distances() {
-    let set = NodeSet::new(3, &[2]);
+    let set = NodeSet::new(3, &[2]).unwrap();
     let mut graph = ring();
     let overlay = graph.overlay(&set).unwrap();
     assert_eq!(overlay.parts().1, []);
@@ -44,8 +53,19 @@ fn distances() {
 }
 
 #[test]
+fn an_overlay_goes_to_a_handheld_in_parts() {
+    let mut graph = line();
+    let built = graph.overlay(&NodeSet::new(5, &[1, 3]).unwrap()).unwrap();
+    let (starts, heads, weights) = built.parts();
+    assert_eq!((starts, heads, weights), (&[0, 0, 1, 1, 2, 2][..], &[3, 1][..], &[16, 16][..]));
+    let mut sent = Overlay::from_parts(built.set().clone(), starts.to_vec(), heads.to_vec(), weights.to_vec()).unwrap();
+    assert_eq!(sent.distance(1, 3), Ok(Some(16)));
+    assert_eq!(sent.distance(3, 3), Ok(Some(0)));
+}
+
+#[test]
 fn an_overlay_from_another_graph() {
-    let set = NodeSet::new(3, &[0, 1, 2]);
+    let set = NodeSet::new(3, &[0, 1, 2]).unwrap();
     let overlay = Overlay::from_parts(set, vec![0, 0, 1, 1], vec![2], vec![1]).unwrap();
     let mut road = RoadGraph::from_arcs(3, &[(0, 1, 1)]).unwrap();
     assert_eq!(road.distance(&overlay, 0, 2), Ok(None));
@@ -53,42 +73,7 @@ fn an_overlay_from_another_graph() {
 
 #[test]
 fn drives() {
-    let set = NodeSet::new(3, &[2]);
+    let set = NodeSet::new(3, &[2]).unwrap();
     assert_eq!(ring().thin(&set, &[2, 0, 1, 2]), Ok(vec![0, 3]));
     assert_eq!(ring().thin(&set, &[2, 1]), Err(Refusal::Drive));
-}
-
-#[test]
-fn refusals() {
-    assert_eq!(RoadGraph::new(vec![0], vec![], vec![]).unwrap_err(), Refusal::Sizes);
-    assert_eq!(RoadGraph::new(vec![1, 0], vec![], vec![]).unwrap_err(), Refusal::Starts);
-    assert_eq!(RoadGraph::new(vec![0, 1], vec![0], vec![1]).unwrap_err(), Refusal::Arcs);
-    assert_eq!(RoadGraph::from_arcs(2, &[(0, 1, 1_000_001)]).unwrap_err(), Refusal::Arcs);
-    assert_eq!(RoadGraph::from_arcs(2, &[(0, 1, 1), (0, 1, 2)]).unwrap_err(), Refusal::Arcs);
-    assert_eq!(line().cover(33, &[0, 1, 2, 3, 4]).unwrap_err(), Refusal::K);
-    assert_eq!(line().cover(2, &[0, 1, 2, 3, 3]).unwrap_err(), Refusal::Order);
-    assert_eq!(line().overlay(&NodeSet::new(4, &[])).unwrap_err(), Refusal::Set);
-    let set = NodeSet::new(5, &[1, 3]);
-    assert_eq!(Overlay::from_parts(set.clone(), vec![0; 5], vec![], vec![]).unwrap_err(), Refusal::Overlay);
-    assert_eq!(Overlay::from_parts(NodeSet::new(0, &[]), vec![0], vec![], vec![]).unwrap_err(), Refusal::Sizes);
-    let mut graph = line();
-    let mut overlay = graph.overlay(&set).unwrap();
-    assert_eq!(graph.distance(&overlay, 0, 5), Err(Refusal::Node));
-    assert_eq!(overlay.distance(1, 0), Err(Refusal::Outside));
-    assert_eq!(Refusal::Room.number(), 12);
-    assert_eq!(Refusal::Outside.to_string(), "refused by 9 (Outside)");
-}
-
-#[test]
-fn more_arcs_than_an_overlay_may_have() {
-    // 257 nodes around a hub see each other: 65,792 arcs.
-    let mut arcs = Vec::new();
-    for v in 1..258u32 {
-        arcs.push((0, v, 1));
-        arcs.push((v, 0, 1));
-    }
-    let mut graph = RoadGraph::from_arcs(258, &arcs).unwrap();
-    let rim: Vec<u32> = (1..258).collect();
-    assert_eq!(graph.overlay(&NodeSet::new(258, &rim)).unwrap_err(), Refusal::Room);
-    assert_eq!(graph.overlay(&NodeSet::new(258, &rim[1..])).unwrap().parts().1.len(), 256 * 255);
 }

@@ -1,5 +1,5 @@
 -- Counting the dropped nodes.
-use mathlib.Core.Path.{_≡_, refl, ap}
+use mathlib.Core.Path.{_≡_, ap}
 use mathlib.Core.Bool.{Bool, true, false}
 use mathlib.Core.List.{List}
 use Prim.Native.Nat.{ℕ, _+_, _≤_, _<_}
@@ -12,8 +12,8 @@ use Rattle.road.specs.Roads.{road}
 use Rattle.road.proofs.Faults.{road-proper}
 use Rattle.rule.specs.Rule.{Needed, PathOf}
 use Rattle.rule.proofs.Few.{few-unneeded}
-use Rattle.pieces.specs.Steps.{Prunable}
-use Rattle.cover.specs.Counting.{Few}
+use Rattle.pieces.specs.workings.Steps.{Prunable}
+use Rattle.cover.specs.workings.Few.{Few}
 
 pub enough : (cover : List ℕ) (k : ℕ) → Few false cover k
 enough cover k = record { fewer = λ e. absurd (let z : _≡_ {A = ℕ} 0 1 = cc in omega arith) }

@@ -1,38 +1,51 @@
 -- What the cover call promises, of every outcome that its contract allows.
 use mathlib.Core.Path.{_≡_, refl, sym, ap, subst, _∙_}
-use mathlib.Core.Logic.{_⊎_, inl, inr, _≢_}
-use mathlib.Core.List.{List, [], _∷_, _++_}
-use Prim.Native.Nat.{ℕ, suc, _+_, _≤_, _<_}
+use mathlib.Core.Logic.{inl}
+use mathlib.Core.List.{List, [], _∷_}
+use Prim.Native.Nat.{ℕ, suc, _+_, _<_}
 use native.Mathlib.Omega.{arith}
 use lib.ListN.{length, getD, replicate}
-use Rattle.paths.specs.Graphs.{Graph, Along, stop, step, IsPath}
+use Rattle.paths.specs.Graphs.{Graph, Along, stop, step}
 use Rattle.paths.specs.Lists.{Mem}
 use Rattle.paths.proofs.Lists.{each-mem}
 use Rattle.paths.proofs.Weights.{path-short}
-use Rattle.road.specs.declared.Refusal.{Refusal}
 use Rattle.road.specs.Chains.{coverFaults}
 use Rattle.road.specs.Counting.{times}
+use Rattle.road.specs.declared.Refusal.{Refusal}
 use Rattle.road.specs.Faults.{Permutation, lengthsFault}
 use Rattle.road.specs.Limits.{roadLimits}
-use Rattle.road.specs.Refusals.{numberOf, Fault, Singles, First, None, Said, refusal, answer}
-use Rattle.road.specs.Roads.{nodesOf, Arc, road, Sound}
-use Rattle.road.proofs.Faults.{road-proper}
-use Rattle.road.proofs.Orders.{permuted}
-use Rattle.road.proofs.Refusals.{of-single, first-one, first-not-none, none-front, number-some, unheld}
+use Rattle.road.specs.workings.Verdicts.{Singles}
+use Rattle.road.specs.Order.{Numbered, HoldsAt, NoneTo}
+use Rattle.road.specs.Refusals.{None, Said, refusal, answer}
+use Rattle.road.specs.Roads.{nodesOf, Arc, road}
+use Rattle.road.specs.workings.Sound.{Sound}
+use Rattle.road.proofs.Faults.{graph-numbered, road-proper}
+use Rattle.road.proofs.Left.{cover-left}
+use Rattle.road.specs.workings.Left.{OfK}
+use Rattle.road.proofs.Refusals.{of-single, of-number, first-one, first-at, first-not-none, none-front, number-some, refusal-one, refusal-no-answer}
 use Rattle.road.proofs.Verdicts.{singles-both, cover-singles}
-use Rattle.cover.specs.Calls.{Areas, Outcome, refused, covered, answered, askedLengths, faultsOf}
+use Rattle.cover.specs.declared.CoverAnswer.{CoverAnswer}
+use Rattle.cover.specs.declared.CoverAnswer.the-variants.{Covered, Refused}
+use Rattle.cover.specs.Calls.{Areas, Outcome, refused, covered, answered, askedLengths, faultsOf, saidOf}
 use Rattle.rule.specs.Promise.{Covers, Tight}
 use Rattle.rule.specs.Rule.{PathOf, Pruned}
-use Rattle.cover.proofs.Outcomes.{input-sound}
 use Rattle.rule.proofs.Rules.{Nodes, prunes-one, covers, tight, same-paths, all-stay, all-drop}
 
 -- an outcome that is an answer: nothing was at fault, the cover is the rule's, the count is that of its ones, and the work is zero
 pub record Answer (starts heads weights : List ℕ) (k : ℕ) (order : List ℕ) (before : Areas) (said : Said) (after : Areas) : Type 0 where
   pub sound : Sound roadLimits starts heads weights
+  pub k-right : OfK k
   pub order-right : Permutation (nodesOf starts) order
   pub pruned : Pruned (PathOf (road starts heads weights) k) (nodesOf starts) order (after .cover)
   pub values : said ≡ answer (times 1 (after .cover) ∷ [])
   pub areas : after ≡ answered (nodesOf starts) (length heads) (after .cover)
+
+-- what is said loses nothing of the answer
+pub said-one : (a b : CoverAnswer) → saidOf a ≡ saidOf b → a ≡ b
+said-one (Covered c) (Covered d) e = ap (λ (n : ℕ). Covered (record { 0 = n })) (ap (λ (x : Said). getD (x .values) 0 0) e)
+said-one (Covered c) (Refused r) e = absurd (refusal-no-answer r (c .0 ∷ []) (sym e))
+said-one (Refused r) (Covered c) e = absurd (refusal-no-answer r (c .0 ∷ []) e)
+said-one (Refused r) (Refused s) e = ap Refused (refusal-one r s e)
 
 module _ (starts heads weights : List ℕ) (k : ℕ) (order : List ℕ) (before : Areas) where
   none-of-input : None (faultsOf starts heads weights k order before) → None (coverFaults starts heads weights k order)
@@ -43,12 +56,18 @@ module _ (starts heads weights : List ℕ) (k : ℕ) (order : List ℕ) (before 
       singles-both (coverFaults starts heads weights k order) (lengthsFault (askedLengths (nodesOf starts) (length heads) before) ∷ []) (cover-singles starts heads weights k order)
       (of-single, tt)
 
+  -- document 01's order: the faults tell these numbers, one after the other
+  pub numbered : Numbered (faultsOf starts heads weights k order before) (1 ∷ 2 ∷ 3 ∷ 4 ∷ 5 ∷ 11 ∷ [])
+  numbered =
+      let g = graph-numbered roadLimits starts heads weights in
+      (g .0, (g .1 .0, (g .1 .1 .0, (of-number, (of-number, (of-number, tt))))))
+
 module _ {starts heads weights : List ℕ} {k : ℕ} {order : List ℕ} {before : Areas} where
   pub answer-of : {said : Said} {after : Areas} → Outcome starts heads weights k order before said after → said .number ≡ 0 → Answer starts heads weights k order before said after
   answer-of (refused {r = r} f) e = absurd (number-some r e)
   answer-of (covered n p) e =
-      let i = none-of-input starts heads weights k order before n in
-      record { sound = input-sound starts heads weights k order i; order-right = permuted (nodesOf starts) order (unheld (i .1 .1 .1 .1 .0)); pruned = p; values = refl; areas = refl }
+      let x = cover-left starts heads weights k order (none-of-input starts heads weights k order before n) in
+      record { sound = x .sound; k-right = x .k-right; order-right = x .order-right; pruned = p; values = refl; areas = refl }
 
   -- two outcomes that the contract allows are equal
   pub outcome-one :
@@ -60,6 +79,18 @@ module _ {starts heads weights : List ℕ} {k : ℕ} {order : List ℕ} {before 
   outcome-one (covered n p) (covered m q) =
       let same = prunes-one p q in
       (ap (λ (c : List ℕ). answer (times 1 c ∷ [])) same, ap (answered (nodesOf starts) (length heads)) same)
+
+  -- and so are two answers
+  pub answer-one :
+      (a b : CoverAnswer) {after after′ : Areas} → Outcome starts heads weights k order before (saidOf a) after → Outcome starts heads weights k order before (saidOf b) after′ →
+      (a ≡ b) × (after ≡ after′)
+  answer-one a b o p = let e = outcome-one o p in (said-one a b (e .0), e .1)
+
+  -- an input with two neighbouring faults, and none before them, is refused by the first
+  pub in-order :
+      {said : Said} {after : Areas} → Outcome starts heads weights k order before said after → (i : ℕ) (r s : Refusal) → NoneTo (faultsOf starts heads weights k order before) i →
+      HoldsAt (faultsOf starts heads weights k order before) i r → HoldsAt (faultsOf starts heads weights k order before) (suc i) s → said ≡ refusal r
+  in-order o i r s n f g = outcome-one o (refused (first-at (faultsOf starts heads weights k order before) i r n f)) .0
 
 -- each path of k nodes has a node
 path-nodes : (G : Graph) (k : ℕ) → Nodes (PathOf G k) (G .nodes)

@@ -1,19 +1,20 @@
 -- Wrong versions that the contract rules out, where no edit of the code has the same shape.
-use mathlib.Core.Path.{_≡_, refl, sym, ap, subst, _∙_}
+use mathlib.Core.Path.{_≡_, refl, sym, ap, _∙_}
 use mathlib.Core.Logic.{_⊎_, inl, inr, ⊎-elim, _≢_}
 use mathlib.Core.List.{List, [], _∷_}
-use Prim.Native.Nat.{ℕ, _+_, _≤_, _<_}
+use Prim.Native.Nat.{ℕ, _+_}
 use native.Mathlib.Omega.{arith}
 use lib.ListN.{length, getD}
-use Rattle.paths.specs.Graphs.{Along, stop, step, IsPath}
+use Rattle.paths.specs.Graphs.{Along, stop, step}
 use Rattle.paths.specs.Lists.{Mem}
 use Rattle.road.specs.Faults.{InSet}
-use Rattle.road.specs.Refusals.{None, Said}
-use Rattle.road.specs.Roads.{Arc, road}
+use Rattle.road.specs.Counting.{times}
+use Rattle.road.specs.Refusals.{None, Said, answer}
+use Rattle.road.specs.Roads.{nodesOf, Arc, road}
 use Rattle.road.proofs.Refusals.{first-not-none}
-use Rattle.cover.specs.Calls.{Areas, Outcome, refused, covered, faultsOf}
+use Rattle.cover.specs.Calls.{Areas, Outcome, refused, covered, answered, faultsOf}
 use Rattle.rule.specs.Rule.{PathOf}
-use Rattle.cover.proofs.Demands.{answer-of, every-path, every-point, one-keeps-all}
+use Rattle.cover.proofs.Demands.{answer-of, every-path, every-point, one-keeps-all, above-drops-all}
 
 -- It refuses everything: where nothing is at fault, the outcome is an answer.
 pub accepted :
@@ -29,10 +30,27 @@ pub refusal-leaves :
 refusal-leaves (refused f) n = refl
 refusal-leaves (covered m p) n = absurd (n refl)
 
--- It writes nothing: with k = 1 one node is a point, whatever its byte was.
+-- Work is left: after an answer all of it is zero.
+pub work-zero :
+    {starts heads weights : List ℕ} {k : ℕ} {order : List ℕ} {before : Areas} {said : Said} {after : Areas} → Outcome starts heads weights k order before said after →
+    said .number ≡ 0 → after ≡ answered (nodesOf starts) (length heads) (after .cover)
+work-zero o z = answer-of o z .areas
+
+-- A made-up count: it is that of the ones.
+pub counts :
+    {starts heads weights : List ℕ} {k : ℕ} {order : List ℕ} {before : Areas} {said : Said} {after : Areas} → Outcome starts heads weights k order before said after →
+    said .number ≡ 0 → said ≡ answer (times 1 (after .cover) ∷ [])
+counts o z = answer-of o z .values
+
+-- Pruning begins with no node, or nothing is written: with k = 1 one node is a point, whatever its byte was.
 pub writes-nothing :
     {weights order : List ℕ} {before : Areas} {said : Said} {after : Areas} → Outcome (0 ∷ 0 ∷ []) [] weights 1 order before said after → said .number ≡ 0 → after .cover ≡ 0 ∷ [] → ⊥
 writes-nothing o z e = omega (arith, ap (λ (l : List ℕ). getD l 0 0) (sym e ∙ one-keeps-all (answer-of o z) refl))
+
+-- Nothing is dropped, or the first node of the order is not judged: with k = 2 one node is no point.
+pub drops-nothing :
+    {weights order : List ℕ} {before : Areas} {said : Said} {after : Areas} → Outcome (0 ∷ 0 ∷ []) [] weights 2 order before said after → said .number ≡ 0 → after .cover ≡ 1 ∷ [] → ⊥
+drops-nothing o z e = omega (arith, ap (λ (l : List ℕ). getD l 0 0) (sym e ∙ above-drops-all (answer-of o z) (omega arith)))
 
 -- It judges only the first node of the order: two nodes without arcs, k = 2, and the second is left.
 pub first-only :

@@ -1,31 +1,31 @@
 -- The call: from its checks to the outcome, and what the outcome promises.
-use mathlib.Core.Path.{_≡_, refl, sym, ap, subst, subst₂, _∙_}
-use mathlib.Core.Logic.{_⊎_, inl, inr, _≢_}
-use mathlib.Core.List.{List, [], _∷_, _++_}
-use Prim.Native.Nat.{ℕ, suc, _+_, _-_, _≤_, _<_}
+use mathlib.Core.Path.{_≡_, sym, ap, subst, subst₂, _∙_}
+use mathlib.Core.List.{List, [], _∷_}
+use Prim.Native.Nat.{ℕ, _+_, _-_, _≤_, _<_}
 use native.Mathlib.Omega.{arith}
-use lib.ListN.{length, getD, replicate, length-replicate}
-use Rattle.paths.specs.Graphs.{Graph, Along, stop, step, IsPath}
-use Rattle.paths.specs.Lists.{Mem, Each}
+use lib.ListN.{length, replicate}
+use Rattle.paths.specs.Lists.{Each}
 use Rattle.paths.proofs.Lists.{each-mem, mem-each}
-use Rattle.paths.proofs.Weights.{path-short}
 use Rattle.road.specs.declared.Refusal.{Refusal}
 use Rattle.road.specs.declared.Verdict.{Verdict}
 use Rattle.road.specs.declared.Verdict.the-variants.{Passed, Refused}
 use Rattle.road.specs.Counting.{times}
 use Rattle.road.specs.Chains.{coverFaults}
-use Rattle.road.specs.Faults.{Permutation, InSet, BadK, graphFaults, kFault, orderFault, lengthsFault}
-use Rattle.road.specs.Limits.{roadLimits, overlayLimits, mostK}
-use Rattle.road.specs.Refusals.{Fault, First, None, Judged, Judges, Said, refusal, answer}
-use Rattle.road.specs.Roads.{nodesOf, Arc, road, Sound}
-use Rattle.turning.specs.Turning.{Roomy, Turned}
-use Rattle.road.proofs.Faults.{sound-of, sound-wider, road-proper, alike-of, not-over}
-use Rattle.road.proofs.Orders.{permuted}
-use Rattle.road.proofs.Refusals.{judged-alone, stops, goes-on, none-front, unheld}
-use Rattle.cover.specs.Calls.{Areas, Ready, Built, Outcome, refused, covered, answered, askedLengths, faultsOf}
-use Rattle.pieces.specs.Pieces.{Kept}
-use Rattle.rule.specs.Rule.{PathOf, Prunes, Pruned}
-use Rattle.pieces.specs.Steps.{OfK, Prunable}
+use Rattle.road.specs.Faults.{lengthsFault}
+use Rattle.road.specs.Limits.{roadLimits, overlayLimits}
+use Rattle.road.specs.Refusals.{None, refusal, answer}
+use Rattle.road.specs.workings.Verdicts.{Judged, Judges}
+use Rattle.road.specs.Roads.{nodesOf, road}
+use Rattle.road.specs.workings.Sound.{Sound}
+use Rattle.turning.specs.workings.Turning.{Roomy, Turned}
+use Rattle.road.proofs.Faults.{sound-wider, road-proper, long-at}
+use Rattle.road.proofs.Left.{cover-left}
+use Rattle.road.proofs.Refusals.{judged-alone, stops, goes-on, unheld}
+use Rattle.cover.specs.Calls.{Areas, Outcome, refused, covered, answered, askedLengths, faultsOf}
+use Rattle.cover.specs.workings.Ready.{Ready, Built}
+use Rattle.pieces.specs.workings.Pieces.{Kept}
+use Rattle.rule.specs.Rule.{PathOf, Prunes}
+use Rattle.pieces.specs.workings.Steps.{Prunable}
 use Rattle.pieces.proofs.Bounding.{pieced-none}
 
 module _ (starts heads weights : List ℕ) (k : ℕ) (order : List ℕ) (a : Areas) (r : Ready starts heads weights k order a) where
@@ -104,15 +104,9 @@ module _ (starts heads weights : List ℕ) (k : ℕ) (order : List ℕ) (a : Are
             sizes = sizes-zero i;
           }
 
-k-of : (k : ℕ) → (BadK k → ⊥) → OfK k
-k-of k n = record { some = not-over 1 k (λ h. n (BadK.none (omega arith))); most = not-over k mostK (λ h. n (BadK.many h)) }
-
 module _ (starts heads weights : List ℕ) (k : ℕ) (order : List ℕ) where
-  pub input-sound : None (coverFaults starts heads weights k order) → Sound roadLimits starts heads weights
-  input-sound n = sound-of roadLimits starts heads weights (none-front (graphFaults roadLimits starts heads weights) (kFault k ∷ orderFault (nodesOf starts) order ∷ []) n)
-
   pub few-nodes : (v : Verdict) → Judges (coverFaults starts heads weights k order) v → v ≡ Passed → nodesOf starts ≤ 4096
-  few-nodes v j p = omega (arith, input-sound (j .passed p) .sized .most)
+  few-nodes v j p = omega (arith, cover-left starts heads weights k order (j .passed p) .sound .sized .most)
 
 -- From the checks to the outcome.
 module _ (starts heads weights : List ℕ) (k : ℕ) (order : List ℕ) (a : Areas) where
@@ -133,20 +127,19 @@ module _ (starts heads weights : List ℕ) (k : ℕ) (order : List ℕ) (a : Are
 
         pub ready : Ready starts heads weights k order a
         ready =
-            let n = j .passed p in
-            let s = input-sound starts heads weights k order n in
-            let y = alike-of (askedLengths (nodesOf starts) (length heads) a) (unheld (l .passed q)) in
+            let x = cover-left starts heads weights k order (j .passed p) in
+            let y = long-at (askedLengths (nodesOf starts) (length heads) a) (unheld (l .passed q)) in
             record {
-              sound = s;
-              k-right = k-of k (unheld (n .1 .1 .1 .0));
-              order-right = permuted (nodesOf starts) order (unheld (n .1 .1 .1 .1 .0));
-              cover-long = y .0;
-              starts-long = y .1 .0;
-              heads-long = y .1 .1 .0;
-              weights-long = y .1 .1 .1 .0;
-              marks-long = y .1 .1 .1 .1 .0;
-              pieces-long = y .1 .1 .1 .1 .1 .0;
-              sizes-long = y .1 .1 .1 .1 .1 .1 .0;
+              sound = x .sound;
+              k-right = x .k-right;
+              order-right = x .order-right;
+              cover-long = y 0;
+              starts-long = y 1;
+              heads-long = y 2;
+              weights-long = y 3;
+              marks-long = y 4;
+              pieces-long = y 5;
+              sizes-long = y 6;
             }
 
         pub covered-so : (after : Areas) (count : ℕ) → Built starts heads weights k order after count → Outcome starts heads weights k order a (answer (count ∷ [])) after

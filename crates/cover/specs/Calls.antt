@@ -1,19 +1,16 @@
 -- The cover call: what it is lent, what it says, and what it leaves.
-use mathlib.Core.Path.{_≡_}
 use mathlib.Core.List.{List, [], _∷_, _++_}
 use Prim.Native.Nat.{ℕ, _+_}
 use lib.ListN.{length, replicate}
 use Rattle.road.specs.declared.Refusal.{Refusal}
 use Rattle.road.specs.Chains.{coverFaults}
 use Rattle.road.specs.Counting.{times}
-use Rattle.road.specs.Faults.{Permutation, lengthsFault}
-use Rattle.road.specs.Limits.{roadLimits}
+use Rattle.road.specs.Faults.{lengthsFault}
 use Rattle.road.specs.Refusals.{Fault, First, None, Said, refusal, answer}
-use Rattle.road.specs.Roads.{nodesOf, road, Sound}
+use Rattle.road.specs.Roads.{nodesOf, road}
 use Rattle.cover.specs.declared.CoverAnswer.{CoverAnswer}
 use Rattle.cover.specs.declared.CoverAnswer.the-variants.{Covered, Refused}
 use Rattle.rule.specs.Rule.{PathOf, Pruned}
-use Rattle.pieces.specs.Steps.{OfK}
 
 -- the number and the values of each answer: the count of the cover's nodes, or a refusal's number alone
 abbrev pub saidOf : CoverAnswer → Said
@@ -29,6 +26,11 @@ pub record Areas : Type 0 where
   pub marks : List ℕ
   pub pieces : List ℕ
   pub sizes : List ℕ
+
+-- the same, gathered from the call's slices at one moment of it
+abbrev pub areas : {A : Type 0} → (A → List ℕ) → A → A → A → A → A → A → A → Areas
+areas at cover starts heads weights marks pieces sizes =
+    record { cover = at cover; starts = at starts; heads = at heads; weights = at weights; marks = at marks; pieces = at pieces; sizes = at sizes }
 
 -- their lengths, each with the length asked
 abbrev pub askedLengths : ℕ → ℕ → Areas → List (ℕ × ℕ)
@@ -61,22 +63,3 @@ pub data Outcome (starts heads weights : List ℕ) (k : ℕ) (order : List ℕ) 
   covered :
       {cover : List ℕ} → None (faultsOf starts heads weights k order before) → Pruned (PathOf (road starts heads weights) k) (nodesOf starts) order cover →
       Outcome starts heads weights k order before (answer (times 1 cover ∷ [])) (answered (nodesOf starts) (length heads) cover)
-
--- what the checks leave: the graph is well formed, k and the order are right, and so are the lengths
-pub record Ready (starts heads weights : List ℕ) (k : ℕ) (order : List ℕ) (a : Areas) : Type 0 where
-  pub sound : Sound roadLimits starts heads weights
-  pub k-right : OfK k
-  pub order-right : Permutation (nodesOf starts) order
-  pub cover-long : length (a .cover) ≡ nodesOf starts
-  pub starts-long : length (a .starts) ≡ nodesOf starts + 1
-  pub heads-long : length (a .heads) ≡ length heads
-  pub weights-long : length (a .weights) ≡ length heads
-  pub marks-long : length (a .marks) ≡ nodesOf starts
-  pub pieces-long : length (a .pieces) ≡ nodesOf starts
-  pub sizes-long : length (a .sizes) ≡ nodesOf starts
-
--- the areas once the cover is built
-pub record Built (starts heads weights : List ℕ) (k : ℕ) (order : List ℕ) (after : Areas) (count : ℕ) : Type 0 where
-  pub pruned : Pruned (PathOf (road starts heads weights) k) (nodesOf starts) order (after .cover)
-  pub count-right : count ≡ times 1 (after .cover)
-  pub zeros : after ≡ answered (nodesOf starts) (length heads) (after .cover)

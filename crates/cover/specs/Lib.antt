@@ -1,3 +1,3 @@
 -- The cover call.
-pub mod Counting
 pub mod Calls
+pub mod workings

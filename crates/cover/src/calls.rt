@@ -14,14 +14,16 @@ ghost use mathlib.Core.Path.{_≡_};
 ghost use mathlib.Core.List.{[], _∷_};
 ghost use Prim.Native.Nat.{_≤_};
 ghost use lib.ListN.{length, replicate};
+ghost use Rattle.lent.specs.Slices.{before, after};
 ghost use Rattle.road.specs.Counting.{times};
 ghost use Rattle.road.specs.Faults.{lengthsFault};
-ghost use Rattle.road.specs.Refusals.{Judged};
-ghost use Rattle.cover.specs.Calls.{Built, Outcome, Ready, askedLengths, saidOf};
+ghost use Rattle.road.specs.workings.Verdicts.{Judged};
+ghost use Rattle.cover.specs.workings.Ready.{Built, Ready};
+ghost use Rattle.cover.specs.Calls.{areas, Outcome, askedLengths, saidOf};
 
 // How many of the bytes are 1.
 fn count_ones(s: &[u8]) -> NodeCount
-    ensures { λ r. ⌜ r .0 ≡ times 1 (now (s .entry)) ⌝ }
+    ensures { λ r. ⌜ r .0 ≡ times 1 (before s) ⌝ }
 {
     let mut count = 0;
     let mut i = 0;
@@ -47,7 +49,7 @@ fn check_lengths(
     sizes: &[u32],
 ) -> Verdict
     requires { ⌜ n .0 ≤ 4096 ⌝ }
-    ensures { λ r. ⌜ Judged (lengthsFault (askedLengths (n .0) (m .0) (record { cover = now (cover .entry); starts = now («starts_back» .entry); heads = now («heads_back» .entry); weights = now («weights_back» .entry); marks = now (marks .entry); pieces = now (pieces .entry); sizes = now (sizes .entry) }))) r ⌝ }
+    ensures { λ r. ⌜ Judged (lengthsFault (askedLengths (n .0) (m .0) (areas before cover «starts_back» «heads_back» «weights_back» marks pieces sizes))) r ⌝ }
 {
     if cover.len() != n.0 {
         return Verdict::Refused(Refusal::Lengths);
@@ -82,8 +84,8 @@ fn clear_work(
     pieces: &mut [u32],
     sizes: &mut [u32],
 )
-    ensures { λ _. ⌜ (now («starts_back» .exit) ≡ replicate (length (now («starts_back» .entry))) 0) × (now («heads_back» .exit) ≡ replicate (length (now («heads_back» .entry))) 0) × (now («weights_back» .exit) ≡ replicate (length (now («weights_back» .entry))) 0) ⌝ }
-    ensures { λ _. ⌜ (now (marks .exit) ≡ replicate (length (now (marks .entry))) 0) × (now (pieces .exit) ≡ replicate (length (now (pieces .entry))) 0) × (now (sizes .exit) ≡ replicate (length (now (sizes .entry))) 0) ⌝ }
+    ensures { λ _. ⌜ (after «starts_back» ≡ replicate (length (before «starts_back»)) 0) × (after «heads_back» ≡ replicate (length (before «heads_back»)) 0) × (after «weights_back» ≡ replicate (length (before «weights_back»)) 0) ⌝ }
+    ensures { λ _. ⌜ (after marks ≡ replicate (length (before marks)) 0) × (after pieces ≡ replicate (length (before pieces)) 0) × (after sizes ≡ replicate (length (before sizes)) 0) ⌝ }
 {
     clear(starts_back);
     clear(heads_back);
@@ -108,8 +110,8 @@ fn build(
     pieces: &mut [u32],
     sizes: &mut [u32],
 ) -> NodeCount
-    requires { ⌜ Ready (now starts) (now heads) (now weights) (k .0) (now order) (record { cover = now cover; starts = now «starts_back»; heads = now «heads_back»; weights = now «weights_back»; marks = now marks; pieces = now pieces; sizes = now sizes }) ⌝ }
-    ensures { λ r. ⌜ Built (now (starts .entry)) (now (heads .entry)) (now (weights .entry)) (k .0) (now (order .entry)) (record { cover = now (cover .exit); starts = now («starts_back» .exit); heads = now («heads_back» .exit); weights = now («weights_back» .exit); marks = now (marks .exit); pieces = now (pieces .exit); sizes = now (sizes .exit) }) (r .0) ⌝ }
+    requires { ⌜ Ready (now starts) (now heads) (now weights) (k .0) (now order) (areas now cover «starts_back» «heads_back» «weights_back» marks pieces sizes) ⌝ }
+    ensures { λ r. ⌜ Built (before starts) (before heads) (before weights) (k .0) (before order) (areas after cover «starts_back» «heads_back» «weights_back» marks pieces sizes) (r .0) ⌝ }
 {
     fill_bytes(cover, 1);
     // A size left over would be sound but useless: it would hide rejections.
@@ -155,7 +157,7 @@ pub fn cover(
     pieces: &mut [u32],
     sizes: &mut [u32],
 ) -> CoverAnswer
-    ensures { λ r. ⌜ Outcome (now (starts .entry)) (now (heads .entry)) (now (weights .entry)) (k .0) (now (order .entry)) (record { cover = now (cover .entry); starts = now («starts_back» .entry); heads = now («heads_back» .entry); weights = now («weights_back» .entry); marks = now (marks .entry); pieces = now (pieces .entry); sizes = now (sizes .entry) }) (saidOf r) (record { cover = now (cover .exit); starts = now («starts_back» .exit); heads = now («heads_back» .exit); weights = now («weights_back» .exit); marks = now (marks .exit); pieces = now (pieces .exit); sizes = now (sizes .exit) }) ⌝ }
+    ensures { λ r. ⌜ Outcome (before starts) (before heads) (before weights) (k .0) (before order) (areas before cover «starts_back» «heads_back» «weights_back» marks pieces sizes) (saidOf r) (areas after cover «starts_back» «heads_back» «weights_back» marks pieces sizes) ⌝ }
 {
     let input = check_cover_input(starts, heads, weights, k, order);
     if let Verdict::Refused(r) = input {

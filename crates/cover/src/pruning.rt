@@ -11,13 +11,16 @@ use trails::longest;
 ghost use mathlib.Core.Path.{_≡_};
 ghost use Prim.Native.Nat.{_≤_, _<_};
 ghost use lib.ListN.{length, set};
+ghost use Rattle.lent.specs.Slices.{before, after};
 ghost use Rattle.paths.specs.Lists.{Each};
-ghost use Rattle.road.specs.Refusals.{Tells};
-ghost use Rattle.road.specs.Roads.{road};
-ghost use Rattle.cover.specs.Counting.{Few};
-ghost use Rattle.pieces.specs.Pieces.{Fits, Kept};
-ghost use Rattle.rule.specs.Rule.{Needed, PathOf, Prunes, Took};
-ghost use Rattle.pieces.specs.Steps.{OfK, Prunable};
+ghost use Rattle.road.specs.workings.Verdicts.{Tells};
+ghost use Rattle.road.specs.Roads.{roadAt};
+ghost use Rattle.cover.specs.workings.Few.{Few};
+ghost use Rattle.pieces.specs.workings.Pieces.{Fits, Kept};
+ghost use Rattle.rule.specs.Rule.{Needed, PathOf, Prunes};
+ghost use Rattle.rule.specs.workings.Taking.{Took};
+ghost use Rattle.pieces.specs.workings.Steps.{Prunable};
+ghost use Rattle.road.specs.workings.Left.{OfK};
 
 // Whether v cannot be dropped.
 fn is_needed(
@@ -34,7 +37,7 @@ fn is_needed(
     requires { ⌜ Prunable (now starts) (now heads) (now weights) (now «starts_back») (now «heads_back») (now «weights_back») (now cover) ⌝ }
     requires { ⌜ OfK (k .0) ⌝ }
     requires { ⌜ v < length (now cover) ⌝ }
-    ensures { λ r. ⌜ Tells r (Needed (PathOf (road (now (starts .entry)) (now (heads .entry)) (now (weights .entry))) (k .0)) (now (cover .entry)) v) ⌝ }
+    ensures { λ r. ⌜ Tells r (Needed (PathOf (roadAt before starts heads weights) (k .0)) (before cover) v) ⌝ }
 {
     let trail = Trail::of(v);
     let most = NodeCount(k.0 - 1);
@@ -58,7 +61,7 @@ fn is_needed(
 
 // Whether the dropped nodes and one more are fewer than k. Counting ends once they are not.
 fn too_few(cover: &[u8], k: NodeCount) -> bool
-    ensures { λ r. ⌜ Few r (now (cover .entry)) (k .0) ⌝ }
+    ensures { λ r. ⌜ Few r (before cover) (k .0) ⌝ }
 {
     let mut nodes = 1;
     let mut v = 0;
@@ -94,9 +97,9 @@ fn stays(
 ) -> bool
     requires { ⌜ Prunable (now starts) (now heads) (now weights) (now «starts_back») (now «heads_back») (now «weights_back») (now cover) ⌝ }
     requires { ⌜ OfK (k .0) ⌝ }
-    requires { ⌜ Fits (road (now starts) (now heads) (now weights)) (k .0) (now cover) (now sizes) v (r .0) ⌝ }
+    requires { ⌜ Fits (roadAt now starts heads weights) (k .0) (now cover) (now sizes) v (r .0) ⌝ }
     requires { ⌜ v < length (now cover) ⌝ }
-    ensures { λ b. ⌜ Tells b (Needed (PathOf (road (now (starts .entry)) (now (heads .entry)) (now (weights .entry))) (k .0)) (now (cover .entry)) v) ⌝ }
+    ensures { λ b. ⌜ Tells b (Needed (PathOf (roadAt before starts heads weights) (k .0)) (before cover) v) ⌝ }
 {
     if r.0 < k.0 {
         return false;
@@ -134,11 +137,11 @@ fn drop_node(
 )
     requires { ⌜ Prunable (now starts) (now heads) (now weights) (now «starts_back») (now «heads_back») (now «weights_back») (now cover) ⌝ }
     requires { ⌜ OfK (k .0) ⌝ }
-    requires { ⌜ Kept (road (now starts) (now heads) (now weights)) (k .0) (now cover) (now sizes) (now pieces) ⌝ }
-    requires { ⌜ Fits (road (now starts) (now heads) (now weights)) (k .0) (now cover) (now sizes) v (r .0) ⌝ }
+    requires { ⌜ Kept (roadAt now starts heads weights) (k .0) (now cover) (now sizes) (now pieces) ⌝ }
+    requires { ⌜ Fits (roadAt now starts heads weights) (k .0) (now cover) (now sizes) v (r .0) ⌝ }
     requires { ⌜ v < length (now cover) ⌝ }
-    ensures { λ _. ⌜ now (cover .exit) ≡ set (now (cover .entry)) v 0 ⌝ }
-    ensures { λ _. ⌜ Kept (road (now (starts .entry)) (now (heads .entry)) (now (weights .entry))) (k .0) (now (cover .exit)) (now (sizes .exit)) (now (pieces .exit)) ⌝ }
+    ensures { λ _. ⌜ after cover ≡ set (before cover) v 0 ⌝ }
+    ensures { λ _. ⌜ Kept (roadAt before starts heads weights) (k .0) (after cover) (after sizes) (after pieces) ⌝ }
 {
     let size = r.0 as u32;
     cover[wide(v)] = 0;
@@ -174,10 +177,10 @@ fn take_node(
 )
     requires { ⌜ Prunable (now starts) (now heads) (now weights) (now «starts_back») (now «heads_back») (now «weights_back») (now cover) ⌝ }
     requires { ⌜ OfK (k .0) ⌝ }
-    requires { ⌜ Kept (road (now starts) (now heads) (now weights)) (k .0) (now cover) (now sizes) (now pieces) ⌝ }
+    requires { ⌜ Kept (roadAt now starts heads weights) (k .0) (now cover) (now sizes) (now pieces) ⌝ }
     requires { ⌜ v < length (now cover) ⌝ }
-    ensures { λ _. ⌜ Took (PathOf (road (now (starts .entry)) (now (heads .entry)) (now (weights .entry))) (k .0)) v (now (cover .entry)) (now (cover .exit)) ⌝ }
-    ensures { λ _. ⌜ Kept (road (now (starts .entry)) (now (heads .entry)) (now (weights .entry))) (k .0) (now (cover .exit)) (now (sizes .exit)) (now (pieces .exit)) ⌝ }
+    ensures { λ _. ⌜ Took (PathOf (roadAt before starts heads weights) (k .0)) v (before cover) (after cover) ⌝ }
+    ensures { λ _. ⌜ Kept (roadAt before starts heads weights) (k .0) (after cover) (after sizes) (after pieces) ⌝ }
 {
     let r = size_for(
         starts,
@@ -239,9 +242,9 @@ pub fn prune(
 )
     requires { ⌜ Prunable (now starts) (now heads) (now weights) (now «starts_back») (now «heads_back») (now «weights_back») (now cover) ⌝ }
     requires { ⌜ OfK (k .0) ⌝ }
-    requires { ⌜ Kept (road (now starts) (now heads) (now weights)) (k .0) (now cover) (now sizes) (now pieces) ⌝ }
+    requires { ⌜ Kept (roadAt now starts heads weights) (k .0) (now cover) (now sizes) (now pieces) ⌝ }
     requires { ⌜ Each (λ v. v < length (now cover)) (now order) ⌝ }
-    ensures { λ _. ⌜ Prunes (PathOf (road (now (starts .entry)) (now (heads .entry)) (now (weights .entry))) (k .0)) (now (order .entry)) (now (cover .entry)) (now (cover .exit)) ⌝ }
+    ensures { λ _. ⌜ Prunes (PathOf (roadAt before starts heads weights) (k .0)) (before order) (before cover) (after cover) ⌝ }
 {
     let mut i = 0;
     while i < order.len() {

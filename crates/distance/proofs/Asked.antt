@@ -1,21 +1,22 @@
 -- The two questions: what they search, what the rows give, and the work left zero.
-use mathlib.Core.Path.{_≡_, refl, sym, ap, subst, _∙_}
-use mathlib.Core.List.{List, [], _∷_}
-use Prim.Native.Nat.{ℕ, zero, suc, _+_, _-_, _*_, _≤_, _<_}
+use mathlib.Core.Path.{_≡_, sym, ap, subst, _∙_}
+use mathlib.Core.List.{List}
+use Prim.Native.Nat.{ℕ, _+_, _-_, _*_, _<_}
 use native.Mathlib.Omega.{arith}
-use lib.ListN.{length, getD, replicate, length-replicate}
-use Rattle.paths.specs.Graphs.{Graph, Reaches}
+use lib.ListN.{length, replicate, length-replicate}
+use Rattle.paths.specs.Graphs.{Reaches}
 use Rattle.paths.specs.Least.{Told}
 use Rattle.road.specs.Limits.{overlayLimits}
-use Rattle.road.specs.Roads.{nodesOf, road, Sound}
-use Rattle.turning.specs.Turning.{Turned}
+use Rattle.road.specs.Roads.{nodesOf, road}
+use Rattle.turning.specs.workings.Turning.{Turned}
 use Rattle.road.proofs.Faults.{sound-wider}
-use Rattle.search.specs.Rows.{Row, Asks}
+use Rattle.search.specs.workings.Rows.{Row, Asks, labelAt}
 use Rattle.overlay.specs.Overlays.{Outside}
 use Rattle.overlay.proofs.Locals.{local-of}
 use Rattle.overlay.proofs.Outcomes.{zeros-of}
-use Rattle.distance.specs.Calls.{HandAreas, HandReady, PairAreas, PairReady, handCleared, pairCleared}
-use Rattle.distance.specs.Labels.{Lesser, Searchable, Rows, RowsAsked, RowsFound, Entries}
+use Rattle.distance.specs.Calls.{HandAreas, PairAreas, handCleared, pairCleared}
+use Rattle.distance.specs.workings.Ready.{HandReady, PairReady}
+use Rattle.distance.specs.workings.Labels.{Lesser, Searchable, Rows, RowsAsked, RowsFound, Entries}
 use Rattle.distance.specs.Questions.{AnyPair}
 use Rattle.distance.proofs.Gates.{into-of, pair-told}
 use Rattle.distance.proofs.Searches.{row-small}
@@ -142,7 +143,7 @@ module _
           }
 
       pub pair-answer :
-          (l m k : ℕ) → l ≡ getD outward t 0 → Told (Entries (road starts″ heads″ weights″) chosen outward inward s t (length chosen)) m → Lesser l m k →
+          (l m k : ℕ) → l ≡ labelAt outward t → Told (Entries (road starts″ heads″ weights″) chosen outward inward s t (length chosen)) m → Lesser l m k →
           Told (AnyPair (road starts heads weights) (road starts″ heads″ weights″) chosen s t) k
       pair-answer l m k e x h =
           pair-told (road starts heads weights) (road starts″ heads″ weights″) chosen outward inward s t (f .leaving) (f .coming) (r .bytes) l m k

@@ -1,32 +1,34 @@
 -- What the two questions promise, of every outcome that their contracts allow. Demand 3: over the overlay that we build the answers are
 -- those of the road graph.
-use mathlib.Core.Path.{_≡_, refl, sym, ap, subst, _∙_}
-use mathlib.Core.Logic.{_⊎_, inl, inr, ⊎-elim, _≢_}
-use mathlib.Core.List.{List, [], _∷_, _++_}
-use Prim.Native.Nat.{ℕ, zero, suc, _+_, _-_, _≤_, _<_}
+use mathlib.Core.Path.{_≡_, refl, sym, ap}
+use mathlib.Core.List.{List, [], _∷_}
+use Prim.Native.Nat.{ℕ, suc, _-_, _≤_, _<_}
 use native.Mathlib.Omega.{arith}
 use lib.ListN.{length, getD, take}
-use Rattle.paths.specs.Graphs.{Graph, stop, IsPath, Reaches, Any}
-use Rattle.paths.specs.Least.{Least, Empty, Under}
+use Rattle.paths.specs.Graphs.{stop, Reaches, Any}
+use Rattle.paths.specs.Least.{Under}
 use Rattle.paths.proofs.Least.{least-one, least-carries, empty-carries}
+use Rattle.road.specs.Chains.{roadAndSetFaults}
+use Rattle.road.specs.Faults.{InSet, Unlike, graphFaults, setFault, nodeFault, lengthsFault}
+use Rattle.road.specs.Limits.{roadLimits, overlayLimits}
 use Rattle.road.specs.declared.Refusal.{Refusal}
-use Rattle.road.specs.Chains.{loneSetFaults, roadAndSetFaults}
-use Rattle.road.specs.Faults.{BadSetSize, BadSet, InSet, Unlike, graphFaults, setFault, nodeFault, lengthsFault}
-use Rattle.road.specs.Limits.{roadLimits, overlayLimits, mostNodes}
-use Rattle.road.specs.Refusals.{Fault, Singles, None, Said, refusal, answer}
-use Rattle.road.specs.Roads.{nodesOf, road, Sound}
-use Rattle.road.proofs.Faults.{none-of-sound, road-proper, set-size-clear, set-clear, nodes-clear, in-set-clear}
-use Rattle.road.proofs.Refusals.{of-single, first-one, first-not-none, untold}
+use Rattle.road.specs.Order.{Numbered, HoldsAt, NoneTo}
+use Rattle.road.specs.Refusals.{None, Said, refusal, answer}
+use Rattle.road.specs.workings.Verdicts.{Singles}
+use Rattle.road.specs.Roads.{nodesOf, road}
+use Rattle.road.proofs.Faults.{graph-numbered, none-of-sound, road-proper, set-size-clear, set-clear, nodes-clear, in-set-clear}
+use Rattle.road.proofs.Refusals.{of-single, of-number, first-one, first-at, first-not-none, none-both, refusal-one, refusal-no-answer, untold}
 use Rattle.road.proofs.Verdicts.{singles-both, lone-set-singles, road-and-set-singles}
 use Rattle.overlay.specs.Calls.{Areas}
 use Rattle.overlay.specs.Lent.{overlayFault}
-use Rattle.overlay.specs.Overlays.{OverlayOf}
 use Rattle.overlay.proofs.Demands.{Answer, overlay-passes}
 use Rattle.overlay.proofs.Locals.{in-bytes, arcs-one}
 use Rattle.overlay.proofs.Unique.{as-nodes, written-arc, pair-written, written-count}
-use Rattle.distance.specs.Calls.{Answers, way, no-way, HandAreas, HandOutcome, handInput, handFaults, handLengths, handCleared, PairAreas, PairOutcome, pairInput, pairFaults, pairLengths, pairCleared}
-use Rattle.distance.specs.Questions.{Handheld, AnyPair}
-use Rattle.distance.proofs.Crossing.{Over, over-road, road-over, pair-road, road-pair}
+use Rattle.distance.specs.declared.DistanceAnswer.{DistanceAnswer}
+use Rattle.distance.specs.declared.DistanceAnswer.the-variants.{Way, NoWay, Refused}
+use Rattle.distance.specs.Calls.{saidOf, Answers, way, no-way, HandAreas, HandOutcome, handInput, handFaults, handLengths, PairAreas, PairOutcome, pairInput, pairFaults, pairLengths}
+use Rattle.overlay.proofs.Crossing.{Over, over-road, road-over}
+use Rattle.distance.proofs.Passing.{pair-road, road-pair}
 
 -- what is said of a set of weights is determined by the set
 pub answers-one : {P : ℕ → Type 0} {said said′ : Said} → Answers P said → Answers P said′ → said ≡ said′
@@ -45,12 +47,28 @@ pub zero-said : {P : ℕ → Type 0} {said : Said} → P 0 → Answers P said �
 zero-said p (way {d = d} l) = ap (λ (k : ℕ). answer (1 ∷ k ∷ [])) {y = 0} (omega (arith, l .least 0 p))
 zero-said p (no-way e) = absurd (e .none 0 p)
 
+-- what is said loses nothing of the answer
+pub said-one : (a b : DistanceAnswer) → saidOf a ≡ saidOf b → a ≡ b
+said-one (Way d) (Way e) q = ap Way (ap (λ (x : Said). getD (x .values) 1 0) q)
+said-one (Way d) NoWay q = absurd (omega (arith, ap (λ (x : Said). getD (x .values) 0 0) q))
+said-one (Way d) (Refused r) q = absurd (refusal-no-answer r (1 ∷ d ∷ []) (sym q))
+said-one NoWay (Way e) q = absurd (omega (arith, ap (λ (x : Said). getD (x .values) 0 0) q))
+said-one NoWay NoWay q = refl
+said-one NoWay (Refused r) q = absurd (refusal-no-answer r (0 ∷ []) (sym q))
+said-one (Refused r) (Way e) q = absurd (refusal-no-answer r (1 ∷ e ∷ []) q)
+said-one (Refused r) NoWay q = absurd (refusal-no-answer r (0 ∷ []) q)
+said-one (Refused r) (Refused s) q = ap Refused (refusal-one r s q)
+
 -- Two outcomes that the contracts allow are equal.
 module _ (chosen starts heads weights : List ℕ) (s t : ℕ) (before : HandAreas) where
   hand-singles : Singles (handFaults chosen starts heads weights s t before)
   hand-singles =
       singles-both (handInput chosen starts heads weights s t) (lengthsFault (handLengths (length chosen) before) ∷ [])
       (lone-set-singles chosen .0, (lone-set-singles chosen .1 .0, (of-single, (of-single, (of-single, tt))))) (of-single, tt)
+
+  -- document 01's order: the faults tell these numbers, one after the other
+  pub hand-numbered : Numbered (handFaults chosen starts heads weights s t before) (1 ∷ 6 ∷ 7 ∷ 8 ∷ 9 ∷ 11 ∷ [])
+  hand-numbered = (of-number, (of-number, (of-number, (of-number, (of-number, (of-number, tt))))))
 
 module _ {chosen starts heads weights : List ℕ} {s t : ℕ} {before : HandAreas} where
   pub hand-one :
@@ -61,12 +79,30 @@ module _ {chosen starts heads weights : List ℕ} {s t : ℕ} {before : HandArea
   hand-one (HandOutcome.answered n x) (HandOutcome.refused {r = r} f) = absurd (first-not-none (handFaults chosen starts heads weights s t before) r f n)
   hand-one (HandOutcome.answered n x) (HandOutcome.answered m y) = (answers-one x y, refl)
 
+  -- and so are two answers
+  pub hand-answer-one :
+      (a b : DistanceAnswer) {after after′ : HandAreas} → HandOutcome chosen starts heads weights s t before (saidOf a) after →
+      HandOutcome chosen starts heads weights s t before (saidOf b) after′ → (a ≡ b) × (after ≡ after′)
+  hand-answer-one a b o p = let e = hand-one o p in (said-one a b (e .0), e .1)
+
+  -- an input with two neighbouring faults, and none before them, is refused by the first
+  pub hand-in-order :
+      {said : Said} {after : HandAreas} → HandOutcome chosen starts heads weights s t before said after → (i : ℕ) (r q : Refusal) →
+      NoneTo (handFaults chosen starts heads weights s t before) i → HoldsAt (handFaults chosen starts heads weights s t before) i r →
+      HoldsAt (handFaults chosen starts heads weights s t before) (suc i) q → said ≡ refusal r
+  hand-in-order o i r q n f g = hand-one o (HandOutcome.refused (first-at (handFaults chosen starts heads weights s t before) i r n f)) .0
+
 module _ (starts heads weights chosen starts′ heads′ weights′ : List ℕ) (s t : ℕ) (before : PairAreas) where
   pair-singles : Singles (pairFaults starts heads weights chosen starts′ heads′ weights′ s t before)
   pair-singles =
       singles-both (pairInput starts heads weights chosen starts′ heads′ weights′ s t) (lengthsFault (pairLengths (nodesOf starts) (length heads) before) ∷ [])
       (singles-both (roadAndSetFaults starts heads weights chosen) (overlayFault chosen starts′ heads′ weights′ ∷ nodeFault (nodesOf starts) s t ∷ [])
       (road-and-set-singles starts heads weights chosen) (of-single, (of-single, tt))) (of-single, tt)
+
+  pub pair-numbered : Numbered (pairFaults starts heads weights chosen starts′ heads′ weights′ s t before) (1 ∷ 2 ∷ 3 ∷ 6 ∷ 7 ∷ 8 ∷ 11 ∷ [])
+  pair-numbered =
+      let g = graph-numbered roadLimits starts heads weights in
+      (g .0, (g .1 .0, (g .1 .1 .0, (of-number, (of-number, (of-number, (of-number, tt)))))))
 
 module _ {starts heads weights chosen starts′ heads′ weights′ : List ℕ} {s t : ℕ} {before : PairAreas} where
   pub pair-one :
@@ -78,9 +114,16 @@ module _ {starts heads weights chosen starts′ heads′ weights′ : List ℕ} 
   pair-one (PairOutcome.answered n x) (PairOutcome.refused {r = r} f) = absurd (first-not-none (pairFaults starts heads weights chosen starts′ heads′ weights′ s t before) r f n)
   pair-one (PairOutcome.answered n x) (PairOutcome.answered m y) = (answers-one x y, refl)
 
-none-both : (Fs Gs : List Fault) → None Fs → None Gs → None (Fs ++ Gs)
-none-both [] Gs f g = g
-none-both (F ∷ Fs) Gs f g = (f .0, none-both Fs Gs (f .1) g)
+  pub pair-answer-one :
+      (a b : DistanceAnswer) {after after′ : PairAreas} → PairOutcome starts heads weights chosen starts′ heads′ weights′ s t before (saidOf a) after →
+      PairOutcome starts heads weights chosen starts′ heads′ weights′ s t before (saidOf b) after′ → (a ≡ b) × (after ≡ after′)
+  pair-answer-one a b o p = let e = pair-one o p in (said-one a b (e .0), e .1)
+
+  pub pair-in-order :
+      {said : Said} {after : PairAreas} → PairOutcome starts heads weights chosen starts′ heads′ weights′ s t before said after → (i : ℕ) (r q : Refusal) →
+      NoneTo (pairFaults starts heads weights chosen starts′ heads′ weights′ s t before) i → HoldsAt (pairFaults starts heads weights chosen starts′ heads′ weights′ s t before) i r →
+      HoldsAt (pairFaults starts heads weights chosen starts′ heads′ weights′ s t before) (suc i) q → said ≡ refusal r
+  pair-in-order o i r q n f g = pair-one o (PairOutcome.refused (first-at (pairFaults starts heads weights chosen starts′ heads′ weights′ s t before) i r n f)) .0
 
 -- Demand 3. The overlay call gave an answer: its starts, and both rooms' parts up to the count returned, are the overlay lent.
 module _ {starts heads weights chosen : List ℕ} {before : Areas} {said : Said} {after : Areas} (a : Answer starts heads weights chosen before said after) where

@@ -1,21 +1,18 @@
 -- Wrong versions that the contracts rule out, where no edit of the code has the same shape.
-use mathlib.Core.Path.{_≡_, refl, sym, ap, subst, _∙_}
+use mathlib.Core.Path.{_≡_, refl, ap, subst, _∙_}
 use mathlib.Core.Logic.{_⊎_, inl, inr, ⊎-elim, _≢_}
 use mathlib.Core.List.{List, [], _∷_}
 use Prim.Native.Nat.{ℕ, zero, suc, _+_, _*_, _≤_, _<_}
 use native.Mathlib.Omega.{arith}
 use lib.ListN.{length, getD}
-use Rattle.paths.specs.Graphs.{Graph, Along, stop, step, IsPath, Reaches, Any}
+use Rattle.paths.specs.Graphs.{Graph, Along, stop, step, Reaches, Any}
 use Rattle.paths.specs.Least.{Least, Empty}
 use Rattle.paths.specs.Lists.{Mem, Inside}
 use Rattle.road.specs.Faults.{InSet}
-use Rattle.road.specs.declared.Refusal.{Refusal}
-use Rattle.road.specs.Chains.{roadAndSetFaults}
-use Rattle.road.specs.Refusals.{numberOf, First, None, Said, answer}
+use Rattle.road.specs.Refusals.{None, Said, answer}
 use Rattle.road.specs.Roads.{nodesOf, Owns, Arc, road}
-use Rattle.road.proofs.Refusals.{first-not-none, number-some, unheld}
+use Rattle.road.proofs.Refusals.{first-not-none, number-some}
 use Rattle.road.proofs.Rows.{owner-node}
-use Rattle.overlay.specs.Lent.{BadOverlay}
 use Rattle.overlay.specs.Overlays.{Outside}
 use Rattle.distance.specs.Calls.{Answers, way, no-way, HandAreas, HandOutcome, handFaults, handCleared, PairAreas, PairOutcome, pairFaults, pairCleared}
 use Rattle.distance.specs.Questions.{Handheld, AnyPair, Lone, WayIn, WayOut}
@@ -76,37 +73,6 @@ module _ {starts heads weights chosen starts′ heads′ weights′ : List ℕ} 
       Answers (AnyPair (road starts heads weights) (road starts′ heads′ weights′) chosen s t) said
   pair-answered (PairOutcome.refused {r = r} f) z = absurd (number-some r z)
   pair-answered (PairOutcome.answered m a) z = a
-
--- Two checks are exchanged: where the overlay is at fault, neither a node nor a length is what it is refused for, and it is refused.
-module _ (chosen starts heads weights : List ℕ) (s t : ℕ) (before : HandAreas) where
-  hand-told : (r : Refusal) → BadOverlay chosen starts heads weights → First (handFaults chosen starts heads weights s t before) r → numberOf r ≤ 7
-  hand-told r b (inl x) = omega (arith, ap numberOf (x .is))
-  hand-told r b (inr f) = ⊎-elim (λ x. omega (arith, ap numberOf (x .is))) (λ g. ⊎-elim (λ x. omega (arith, ap numberOf (x .is))) (λ h. absurd (unheld (h .0) b)) (g .1)) (f .1)
-
-module _ {chosen starts heads weights : List ℕ} {s t : ℕ} {before : HandAreas} where
-  pub hand-overlay-first :
-      {said : Said} {after : HandAreas} → HandOutcome chosen starts heads weights s t before said after → BadOverlay chosen starts heads weights →
-      (said .number ≢ 0) × (said .number ≤ 7)
-  hand-overlay-first (HandOutcome.refused {r = r} f) b = (number-some r, hand-told chosen starts heads weights s t before r b f)
-  hand-overlay-first (HandOutcome.answered n a) b = absurd (unheld (n .1 .1 .0) b)
-
-module _ (starts heads weights chosen starts′ heads′ weights′ : List ℕ) (s t : ℕ) (before : PairAreas) where
-  pair-told :
-      (r : Refusal) → BadOverlay chosen starts′ heads′ weights′ → First (pairFaults starts heads weights chosen starts′ heads′ weights′ s t before) r →
-      None (roadAndSetFaults starts heads weights chosen) → numberOf r ≡ 7
-  pair-told r b (inl x) n = absurd (n .0 r x)
-  pair-told r b (inr f) n =
-      ⊎-elim (λ x. absurd (n .1 .0 r x))
-      (λ g.
-      ⊎-elim (λ x. absurd (n .1 .1 .0 r x))
-      (λ h. ⊎-elim (λ x. absurd (n .1 .1 .1 .0 r x)) (λ k. ⊎-elim (λ x. ap numberOf (x .is)) (λ l. absurd (unheld (l .0) b)) (k .1)) (h .1)) (g .1)) (f .1)
-
-module _ {starts heads weights chosen starts′ heads′ weights′ : List ℕ} {s t : ℕ} {before : PairAreas} where
-  pub pair-overlay-first :
-      {said : Said} {after : PairAreas} → PairOutcome starts heads weights chosen starts′ heads′ weights′ s t before said after →
-      None (roadAndSetFaults starts heads weights chosen) → BadOverlay chosen starts′ heads′ weights′ → said .number ≡ 7
-  pair-overlay-first (PairOutcome.refused {r = r} f) n b = pair-told starts heads weights chosen starts′ heads′ weights′ s t before r b f n
-  pair-overlay-first (PairOutcome.answered m a) n b = absurd (unheld (m .1 .1 .1 .1 .0) b)
 
 -- the path of one node
 alone : (G : Graph) (P : ℕ → Type 0) (s : ℕ) → s < G .nodes → Reaches G P s s 0

@@ -1,38 +1,29 @@
 -- Ways in and out of the set, as the rows of the two searches find them.
-use mathlib.Core.Path.{_≡_, refl, sym, ap, subst, _∙_}
-use mathlib.Core.Logic.{_⊎_, inl, inr, ⊎-elim, _≢_}
-use mathlib.Core.List.{List, [], _∷_}
+use mathlib.Core.Path.{_≡_, refl, sym, subst}
+use mathlib.Core.Logic.{_⊎_, inl, inr, ⊎-elim}
+use mathlib.Core.List.{List, _∷_}
 use Prim.Native.Nat.{ℕ, zero, suc, _+_, _≤_, _<_}
 use native.Mathlib.Omega.{arith}
-use lib.ListN.{length, getD}
-use Rattle.paths.specs.Graphs.{Graph, Proper, turned, Along, stop, step, IsPath, Reaches, Any}
-use Rattle.paths.specs.Least.{Least, Empty, Told, Under}
-use Rattle.paths.specs.Lists.{Mem, Different, Each, Inside}
+use lib.ListN.{length}
+use Rattle.paths.specs.Graphs.{Graph, Along, stop, step, Reaches}
+use Rattle.paths.specs.Least.{Told}
+use Rattle.paths.specs.Lists.{Mem, Different, Inside}
 use Rattle.paths.proofs.Least.{told-carries}
-use Rattle.paths.proofs.Lists.{mem-each}
-use Rattle.paths.proofs.Turned.{turned-reaches, turned-proper}
+use Rattle.paths.proofs.Lists.{each-inside, mem-each}
+use Rattle.paths.proofs.Ways.{end-in}
+use Rattle.paths.proofs.Turned.{turned-reaches}
 use Rattle.road.specs.Faults.{InSet}
 use Rattle.road.specs.Limits.{overlayLimits}
-use Rattle.road.specs.Roads.{nodesOf, Arc, road, Sound, TurnedRound}
+use Rattle.road.specs.Roads.{road}
+use Rattle.road.specs.workings.Sound.{Sound, TurnedRound}
 use Rattle.road.proofs.Faults.{road-proper}
-use Rattle.search.specs.Rows.{Row}
 use Rattle.overlay.specs.Overlays.{Outside}
-use Rattle.overlay.specs.Writing.{Local}
-use Rattle.overlay.proofs.Locals.{in-bytes, local-of, reaches-map}
-use Rattle.distance.specs.Labels.{Lesser, Sum, Gate, itself, reached, Through, Entries, Into}
+use Rattle.overlay.specs.workings.Writing.{Local}
+use Rattle.overlay.proofs.Locals.{in-bytes}
+use Rattle.distance.specs.workings.Labels.{Lesser, Gate, itself, reached, Entries, Into}
 use Rattle.distance.specs.Questions.{Lone, WayIn, WayOut, AnyPair, direct, over}
 use Rattle.distance.proofs.Telling.{told-lesser}
-
--- what holds of every node of a list holds of those before its last
-pub each-inside : (P : ℕ → Type 0) (l : List ℕ) → Each P l → Inside P l
-each-inside P [] e = tt
-each-inside P (x ∷ []) e = tt
-each-inside P (x ∷ y ∷ l) e = (e .0, each-inside P (y ∷ l) (e .1))
-
--- the last node of a way that goes anywhere stands in its list
-pub end-in : {G : Graph} {s t w y : ℕ} {l : List ℕ} → Along G s (y ∷ l) t w → Mem t (y ∷ l)
-end-in (step x stop) = inl refl
-end-in (step x (step y r)) = inr (end-in (step y r))
+use Rattle.search.specs.workings.Rows.{labelAt}
 
 module _ {G : Graph} (chosen : List ℕ) where
   -- a node behind the first is outside the set, or the last
@@ -83,12 +74,12 @@ module _ {G : Graph} (chosen : List ℕ) where
     -- and each way in is found, at no more
     pub in-gate : (a x : ℕ) → WayIn G chosen s a x → (d : ℕ) × Gate chosen row s a d × (d ≤ x)
     in-gate a x (WayIn.itself i e z) = (x, itself i e z, omega arith)
-    in-gate a x (WayIn.reached o i l) = by (getD row a 0) refl
+    in-gate a x (WayIn.reached o i l) = by (labelAt row a) refl
       where
-        here : Told (Reaches G (Outside chosen) s a) (getD row a 0)
+        here : Told (Reaches G (Outside chosen) s a) (labelAt row a)
         here = f .told a (omega (arith, in-bytes chosen a i, as-long))
 
-        by : (k : ℕ) → getD row a 0 ≡ k → (d : ℕ) × Gate chosen row s a d × (d ≤ x)
+        by : (k : ℕ) → labelAt row a ≡ k → (d : ℕ) × Gate chosen row s a d × (d ≤ x)
         by zero e = absurd (here .none e .none x (lone-in-reaches l))
         by (suc d) e = (d, reached o i e, here .some d e .least x (lone-in-reaches l))
 
@@ -99,12 +90,12 @@ module _ {G : Graph} (chosen : List ℕ) where
 
     pub out-gate : (b z : ℕ) → WayOut G chosen b t z → (d : ℕ) × Gate chosen row t b d × (d ≤ z)
     out-gate b z (WayOut.itself i e q) = (z, itself i e q, omega arith)
-    out-gate b z (WayOut.reached o i l) = by (getD row b 0) refl
+    out-gate b z (WayOut.reached o i l) = by (labelAt row b) refl
       where
-        here : Told (Reaches G (Outside chosen) b t) (getD row b 0)
+        here : Told (Reaches G (Outside chosen) b t) (labelAt row b)
         here = f .told b (omega (arith, in-bytes chosen b i, as-long))
 
-        by : (k : ℕ) → getD row b 0 ≡ k → (d : ℕ) × Gate chosen row t b d × (d ≤ z)
+        by : (k : ℕ) → labelAt row b ≡ k → (d : ℕ) × Gate chosen row t b d × (d ≤ z)
         by zero e = absurd (here .none e .none z (lone-out-reaches l))
         by (suc d) e = (d, reached o i e, here .some d e .least z (lone-out-reaches l))
 

@@ -5,6 +5,6 @@ pub mod Nodes
 pub mod Gates
 pub mod Asked
 pub mod Outcomes
-pub mod Crossing
+pub mod Passing
 pub mod Demands
 pub mod Forbidden

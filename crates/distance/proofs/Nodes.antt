@@ -1,13 +1,12 @@
 -- What the checks of a question's nodes leave.
 use mathlib.Core.Path.{_≡_}
-use mathlib.Core.List.{List}
-use Prim.Native.Nat.{ℕ, suc, _≤_, _<_}
-use native.Mathlib.Decide.{decLt, ℕ-discrete}
+use Prim.Native.Nat.{ℕ, _<_}
+use native.Mathlib.Decide.{decLt}
 use native.Mathlib.Omega.{arith}
 use Rattle.road.specs.declared.Verdict.{Verdict}
 use Rattle.road.specs.declared.Verdict.the-variants.{Passed}
-use Rattle.road.specs.Faults.{NoNode, NotInSet, InSet, nodeFault}
-use Rattle.road.specs.Refusals.{Judged}
+use Rattle.road.specs.Faults.{NoNode, nodeFault}
+use Rattle.road.specs.workings.Verdicts.{Judged}
 use Rattle.road.proofs.Refusals.{unheld}
 
 module _ (n s t : ℕ) (f : NoNode n s t → ⊥) where

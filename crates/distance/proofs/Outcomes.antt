@@ -1,25 +1,27 @@
 -- The calls: from their checks to the outcomes.
-use mathlib.Core.Path.{_≡_, refl, sym, ap, subst, subst₂, _∙_}
-use mathlib.Core.Logic.{_⊎_, inl, inr, ⊎-elim, _≢_}
+use mathlib.Core.Path.{_≡_, refl, sym, ap, subst₂, _∙_}
+use mathlib.Core.Logic.{_⊎_, inl, inr, ⊎-elim}
 use mathlib.Core.List.{List, [], _∷_, _++_}
-use Prim.Native.Nat.{ℕ, zero, suc, _+_, _-_, _*_, _≤_, _<_}
+use Prim.Native.Nat.{ℕ, zero, suc, _+_, _-_, _*_, _≤_}
 use native.Mathlib.Omega.{arith}
-use lib.ListN.{length, getD}
+use lib.ListN.{length}
 use Rattle.paths.specs.Least.{Told}
 use Rattle.road.specs.declared.Refusal.{Refusal}
-use Rattle.road.specs.declared.Refusal.the-variants.{Lengths}
 use Rattle.road.specs.declared.Verdict.{Verdict}
 use Rattle.road.specs.declared.Verdict.the-variants.{Passed, Refused}
 use Rattle.road.specs.Chains.{loneSetFaults, roadAndSetFaults}
-use Rattle.road.specs.Faults.{BadSetSize, Unlike, graphFaults, setFault, nodeFault, lengthsFault}
-use Rattle.road.specs.Limits.{roadLimits, overlayLimits, mostNodes}
-use Rattle.road.specs.Refusals.{Judged, Judges, None, Said, refusal}
-use Rattle.road.specs.Roads.{nodesOf, road, Sound}
-use Rattle.road.proofs.Faults.{sound-of, alike-of, not-unlike, not-over}
-use Rattle.road.proofs.Refusals.{judged-alone, not-both, stops, goes-on, none-front, none-if-no-first, unheld, told, untold}
+use Rattle.road.specs.Faults.{BadSetSize, Unlike, graphFaults, nodeFault, lengthsFault, outsideFault}
+use Rattle.road.specs.Limits.{overlayLimits, mostNodes}
+use Rattle.road.specs.workings.Verdicts.{Judged, Judges}
+use Rattle.road.specs.Refusals.{None, Said, refusal}
+use Rattle.road.specs.Roads.{nodesOf, road}
+use Rattle.road.specs.workings.Sound.{Sound}
+use Rattle.road.proofs.Faults.{sound-of, long-at, not-unlike, not-over}
+use Rattle.road.proofs.Refusals.{judged-alone, not-both, stops, goes-on, none-front, none-if-no-first, unheld, untold, none-back}
 use Rattle.overlay.specs.Lent.{BadOverlay, overlayFault}
-use Rattle.overlay.proofs.Outcomes.{set-long, set-bits, input-sound}
-use Rattle.distance.specs.Calls.{saidLabel, Answers, way, no-way, HandAreas, HandOutcome, HandReady, handInput, handFaults, handLengths, handCleared, PairAreas, PairOutcome, PairReady, pairInput, pairFaults, pairLengths, pairCleared}
+use Rattle.road.proofs.Left.{road-and-set-left}
+use Rattle.distance.specs.workings.Ready.{saidLabel, HandReady, PairReady}
+use Rattle.distance.specs.Calls.{Answers, way, no-way, HandAreas, HandOutcome, handInput, handFaults, handLengths, handCleared, PairAreas, PairOutcome, pairInput, pairFaults, pairLengths, pairCleared}
 use Rattle.distance.specs.Questions.{Handheld, AnyPair}
 use Rattle.distance.proofs.Nodes.{from-node, to-node}
 
@@ -65,6 +67,10 @@ module _ (chosen starts heads weights : List ℕ) (f : BadOverlay chosen starts 
   lent-nodes = omega (arith, not-unlike (length starts) (length chosen + 1) (λ n. f (BadOverlay.unlike n)))
 
 module _ (chosen starts heads weights : List ℕ) (s t : ℕ) where
+  -- what the checks leave: a set, an overlay that passes, two nodes
+  own-none : None (handInput chosen starts heads weights s t) → None (overlayFault chosen starts heads weights ∷ nodeFault (length chosen) s t ∷ outsideFault chosen s t ∷ [])
+  own-none n = none-back (loneSetFaults chosen) (overlayFault chosen starts heads weights ∷ nodeFault (length chosen) s t ∷ outsideFault chosen s t ∷ []) n
+
   pub hand-few : (v : Verdict) → Judges (handInput chosen starts heads weights s t) v → v ≡ Passed → length chosen ≤ 4096
   hand-few v j p = not-over (length chosen) mostNodes (λ h. unheld (j .passed p .0) (BadSetSize.many h))
 
@@ -80,24 +86,24 @@ module _ (chosen starts heads weights : List ℕ) (s t : ℕ) where
       hand-refused-late r e = HandOutcome.refused (all-judged .refused r e)
 
       lent : BadOverlay chosen starts heads weights → ⊥
-      lent = unheld (j .passed p .1 .1 .0)
+      lent = unheld (own-none (j .passed p) .0)
 
       same : nodesOf starts ≡ length chosen
       same = lent-nodes chosen starts heads weights lent
 
       pub hand-ready : v ≡ Passed → (s′ t′ : ℕ) → s′ ≡ s → t′ ≡ t → HandReady starts heads weights s′ t′ a
       hand-ready q s′ t′ e f =
-          let n = unheld (j .passed p .1 .1 .1 .0) in
-          let y = alike-of (handLengths (length chosen) a) (unheld (l .passed q)) in
+          let n = unheld (own-none (j .passed p) .1 .0) in
+          let y = long-at (handLengths (length chosen) a) (unheld (l .passed q)) in
           record {
             sound = lent-sound chosen starts heads weights lent;
             from = omega (arith, from-node (length chosen) s t n, same);
             to = omega (arith, to-node (length chosen) s t n, same);
-            labels-long = y .0 ∙ sym same;
-            heap-long = y .1 .0 ∙ ap (λ (k : ℕ). 2 * k) (sym same);
-            places-long = y .1 .1 .0 ∙ sym same;
-            touched-long = y .1 .1 .1 .0 ∙ sym same;
-            blocked-long = y .1 .1 .1 .1 .0 ∙ sym same;
+            labels-long = y 0 ∙ sym same;
+            heap-long = y 1 ∙ ap (λ (k : ℕ). 2 * k) (sym same);
+            places-long = y 2 ∙ sym same;
+            touched-long = y 3 ∙ sym same;
+            blocked-long = y 4 ∙ sym same;
           }
 
       pub hand-answered :
@@ -112,8 +118,11 @@ module _ (starts heads weights chosen starts′ heads′ weights′ : List ℕ) 
   input-none : None (pairInput starts heads weights chosen starts′ heads′ weights′ s t) → None (roadAndSetFaults starts heads weights chosen)
   input-none n = none-front (roadAndSetFaults starts heads weights chosen) (overlayFault chosen starts′ heads′ weights′ ∷ nodeFault (nodesOf starts) s t ∷ []) n
 
+  rest-none : None (pairInput starts heads weights chosen starts′ heads′ weights′ s t) → None (overlayFault chosen starts′ heads′ weights′ ∷ nodeFault (nodesOf starts) s t ∷ [])
+  rest-none n = none-back (roadAndSetFaults starts heads weights chosen) (overlayFault chosen starts′ heads′ weights′ ∷ nodeFault (nodesOf starts) s t ∷ []) n
+
   pub pair-few : (v : Verdict) → Judges (pairInput starts heads weights chosen starts′ heads′ weights′ s t) v → v ≡ Passed → nodesOf starts ≤ 4096
-  pair-few v j p = omega (arith, input-sound starts heads weights chosen (input-none (j .passed p)) .sized .most)
+  pair-few v j p = omega (arith, road-and-set-left starts heads weights chosen (input-none (j .passed p)) .sound .sized .most)
 
   module _ (a : PairAreas) where
     pub pair-refused-early :
@@ -139,29 +148,28 @@ module _ (starts heads weights chosen starts′ heads′ weights′ : List ℕ) 
 
         pub pair-ready : v ≡ Passed → (s″ t″ : ℕ) → s″ ≡ s → t″ ≡ t → PairReady starts heads weights chosen starts′ heads′ weights′ s″ t″ a
         pair-ready q s″ t″ e f =
-            let n = j .passed p in
-            let set-right = unheld (n .1 .1 .1 .0) in
-            let lent = unheld (n .1 .1 .1 .1 .0) in
-            let nodes = unheld (n .1 .1 .1 .1 .1 .0) in
-            let y = alike-of (pairLengths (nodesOf starts) (length heads) a) (unheld (l .passed q)) in
+            let x = road-and-set-left starts heads weights chosen (input-none (j .passed p)) in
+            let lent = unheld (rest-none (j .passed p) .0) in
+            let nodes = unheld (rest-none (j .passed p) .1 .0) in
+            let y = long-at (pairLengths (nodesOf starts) (length heads) a) (unheld (l .passed q)) in
             record {
-              sound = input-sound starts heads weights chosen (input-none n);
+              sound = x .sound;
               lent-sound = lent-sound chosen starts′ heads′ weights′ lent;
-              as-many = lent-nodes chosen starts′ heads′ weights′ lent ∙ set-long (nodesOf starts) chosen set-right;
-              bytes = set-long (nodesOf starts) chosen set-right;
-              bits = set-bits (nodesOf starts) chosen set-right;
+              as-many = lent-nodes chosen starts′ heads′ weights′ lent ∙ x .set-right .bytes;
+              bytes = x .set-right .bytes;
+              bits = x .set-right .bits;
               from = omega (arith, from-node (nodesOf starts) s t nodes);
               to = omega (arith, to-node (nodesOf starts) s t nodes);
-              starts-long = y .0;
-              heads-long = y .1 .0;
-              weights-long = y .1 .1 .0;
-              outward-long = y .1 .1 .1 .0;
-              inward-long = y .1 .1 .1 .1 .0;
-              labels-long = y .1 .1 .1 .1 .1 .0;
-              heap-long = y .1 .1 .1 .1 .1 .1 .0;
-              places-long = y .1 .1 .1 .1 .1 .1 .1 .0;
-              touched-long = y .1 .1 .1 .1 .1 .1 .1 .1 .0;
-              blocked-long = y .1 .1 .1 .1 .1 .1 .1 .1 .1 .0;
+              starts-long = y 0;
+              heads-long = y 1;
+              weights-long = y 2;
+              outward-long = y 3;
+              inward-long = y 4;
+              labels-long = y 5;
+              heap-long = y 6;
+              places-long = y 7;
+              touched-long = y 8;
+              blocked-long = y 9;
             }
 
         pub pair-answered :

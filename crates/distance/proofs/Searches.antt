@@ -1,23 +1,23 @@
 -- What the rows of the one search say here: in the overlay nothing is blocked, and every label can be summed.
 use mathlib.Core.Path.{_≡_, refl, sym, ap, subst, _∙_}
-use mathlib.Core.Logic.{_≢_}
 use mathlib.Core.List.{List}
-use Prim.Native.Nat.{ℕ, zero, suc, _+_, _-_, _*_, _≤_, _<_}
+use Prim.Native.Nat.{ℕ, zero, suc, _-_, _*_, _≤_, _<_}
 use native.Mathlib.Decide.{decLt}
 use native.Mathlib.Nat.{mul-le-mul-right}
 use native.Mathlib.Omega.{arith}
 use lib.ListN.{length, getD, replicate, length-replicate, List·getD-eq-default}
-use Rattle.paths.specs.Graphs.{Graph, Reaches, Any, arcsOf}
+use Rattle.paths.specs.Graphs.{Reaches, Any, arcsOf}
 use Rattle.paths.specs.Least.{Told}
 use Rattle.paths.proofs.Weights.{path-light}
 use Rattle.paths.proofs.Least.{told-carries}
 use Rattle.road.specs.Limits.{overlayLimits}
-use Rattle.road.specs.Roads.{nodesOf, road, Sound}
+use Rattle.road.specs.Roads.{nodesOf, road}
+use Rattle.road.specs.workings.Sound.{Sound}
 use Rattle.road.proofs.Faults.{road-proper, road-lighter}
-use Rattle.road.proofs.Zeros.{zeros-at}
-use Rattle.search.specs.Rows.{Free, Row, Asks}
+use Rattle.road.proofs.Filled.{zeros-at}
+use Rattle.search.specs.workings.Rows.{Free, Row, Asks, labelAt}
 use Rattle.overlay.proofs.Locals.{reaches-under}
-use Rattle.distance.specs.Labels.{Small, Modest, Searchable}
+use Rattle.distance.specs.workings.Labels.{Small, Modest, Searchable}
 
 -- no label is more than one over 16,769,025,000,000
 pub row-small :
@@ -33,12 +33,12 @@ row-small starts heads weights blocked a labels s r = record { small = λ v. by 
         let arcs : arcsOf (nodesOf starts) * 4095000000 ≤ 4095 * 4095000000 = mul-le-mul-right 4095000000 few in
         omega arith
 
-    some : (v l : ℕ) → getD labels v 0 ≡ l → Told (Reaches (road starts heads weights) (Free blocked) a v) l → Modest (getD labels v 0)
+    some : (v l : ℕ) → labelAt labels v ≡ l → Told (Reaches (road starts heads weights) (Free blocked) a v) l → Modest (labelAt labels v)
     some v zero e t = omega arith
     some v (suc d) e t = omega (arith, light d v (t .some d refl .is))
 
-    by : (v : ℕ) → Dec (v < nodesOf starts) → Modest (getD labels v 0)
-    by v (yes h) = some v (getD labels v 0) refl (r .told v h)
+    by : (v : ℕ) → Dec (v < nodesOf starts) → Modest (labelAt labels v)
+    by v (yes h) = some v (labelAt labels v) refl (r .told v h)
     by v (no n) = omega (arith, List·getD-eq-default labels 0 {n = v} (omega (arith, r .long)))
 
 module _ (starts heads weights blocked labels heap places : List ℕ) (s : Searchable starts heads weights blocked labels heap places) where
@@ -70,5 +70,5 @@ module _ (starts heads weights blocked labels heap places : List ℕ) (s : Searc
   all-free v = ap (λ (l : List ℕ). getD l v 0) (s .blocked-zero) ∙ zeros-at (nodesOf starts) v
 
   -- nothing is blocked, so the row is over all paths
-  pub row-any : (a : ℕ) (labels′ : List ℕ) → Row (road starts heads weights) blocked a labels′ → (b : ℕ) → b < nodesOf starts → Told (Reaches (road starts heads weights) Any a b) (getD labels′ b 0)
+  pub row-any : (a : ℕ) (labels′ : List ℕ) → Row (road starts heads weights) blocked a labels′ → (b : ℕ) → b < nodesOf starts → Told (Reaches (road starts heads weights) Any a b) (labelAt labels′ b)
   row-any a labels′ r b h = told-carries (reaches-under (λ v f. tt)) (reaches-under (λ v f. all-free v)) (r .told b h)

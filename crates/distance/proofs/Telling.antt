@@ -1,15 +1,16 @@
 -- Labels that tell least numbers: the lesser of two, the sum of three, and what a row says of a gate.
-use mathlib.Core.Path.{_≡_, refl, sym, ap, subst, _∙_}
+use mathlib.Core.Path.{_≡_, refl, sym, subst, _∙_}
 use mathlib.Core.Logic.{_⊎_, inl, inr, ⊎-elim, _≢_}
 use mathlib.Core.List.{List}
 use Prim.Native.Nat.{ℕ, zero, suc, _+_, _≤_, _<_}
 use native.Mathlib.Decide.{ℕ-discrete}
 use native.Mathlib.Omega.{arith}
-use lib.ListN.{length, getD}
+use lib.ListN.{length}
 use Rattle.paths.specs.Graphs.{Graph, Reaches, Any}
 use Rattle.paths.specs.Least.{Least, Empty, Told}
 use Rattle.road.specs.Faults.{InSet}
-use Rattle.distance.specs.Labels.{Lesser, Summed, Modest, Small, Sum, Gate, itself, reached, Says, Exits, Through, Entries}
+use Rattle.distance.specs.workings.Labels.{Lesser, Summed, Modest, Small, Sum, Gate, itself, reached, Says, Exits, Through, Entries}
+use Rattle.search.specs.workings.Rows.{labelAt}
 
 -- a label tells of what it says
 pub says-told : (l : ℕ) → Told (Says l) l
@@ -138,7 +139,7 @@ module _ (chosen row : List ℕ) (s v : ℕ) where
       by d (itself j e z) = o j
       by d (reached p j e) = n j
 
-  pub gate-reached : (InSet chosen s → ⊥) → InSet chosen v → (l : ℕ) → l ≡ getD row v 0 → Told (Gate chosen row s v) l
+  pub gate-reached : (InSet chosen s → ⊥) → InSet chosen v → (l : ℕ) → l ≡ labelAt row v → Told (Gate chosen row s v) l
   gate-reached o i l q =
       told-map (λ d e. reached o i (sym q ∙ e)) by l (says-told l)
     where
@@ -160,19 +161,19 @@ module _ (chosen labels row : List ℕ) (t first : ℕ) where
   exits-none = told-none (λ d x. omega (arith, x .below))
 
   pub exits-more :
-      (b l m r : ℕ) → Told (Exits chosen labels row t first b) l → Told (Sum (Says first) (Says (getD labels b 0)) (Gate chosen row t b)) m → Lesser l m r →
+      (b l m r : ℕ) → Told (Exits chosen labels row t first b) l → Told (Sum (Says first) (Says (labelAt labels b)) (Gate chosen row t b)) m → Lesser l m r →
       Told (Exits chosen labels row t first (b + 1)) r
   exits-more b l m r x y h = told-map to from r (told-lesser l m r x y h)
     where
-      to : (d : ℕ) → Exits chosen labels row t first b d ⊎ Sum (Says first) (Says (getD labels b 0)) (Gate chosen row t b) d → Exits chosen labels row t first (b + 1) d
+      to : (d : ℕ) → Exits chosen labels row t first b d ⊎ Sum (Says first) (Says (labelAt labels b)) (Gate chosen row t b) d → Exits chosen labels row t first (b + 1) d
       to d (inl e) = record { exit = e .exit; below = omega (arith, e .below); sum = e .sum }
       to d (inr e) = record { exit = b; below = omega arith; sum = e }
 
-      from : (d : ℕ) → Exits chosen labels row t first (b + 1) d → Exits chosen labels row t first b d ⊎ Sum (Says first) (Says (getD labels b 0)) (Gate chosen row t b) d
+      from : (d : ℕ) → Exits chosen labels row t first (b + 1) d → Exits chosen labels row t first b d ⊎ Sum (Says first) (Says (labelAt labels b)) (Gate chosen row t b) d
       from d e = by (ℕ-discrete (e .exit) b)
         where
-          by : Dec (e .exit ≡ b) → Exits chosen labels row t first b d ⊎ Sum (Says first) (Says (getD labels b 0)) (Gate chosen row t b) d
-          by (yes q) = inr (subst (λ (k : ℕ). Sum (Says first) (Says (getD labels k 0)) (Gate chosen row t k) d) q (e .sum))
+          by : Dec (e .exit ≡ b) → Exits chosen labels row t first b d ⊎ Sum (Says first) (Says (labelAt labels b)) (Gate chosen row t b) d
+          by (yes q) = inr (subst (λ (k : ℕ). Sum (Says first) (Says (labelAt labels k)) (Gate chosen row t k) d) q (e .sum))
           by (no n) = inl (record { exit = e .exit; below = omega (arith, e .below); sum = e .sum })
 
   pub exits-all : (b n l : ℕ) → Told (Exits chosen labels row t first b) l → b ≤ n → n ≤ b → Told (Exits chosen labels row t first n) l
@@ -211,15 +212,15 @@ module _ (O : Graph) (chosen outward inward : List ℕ) (s t : ℕ) where
 
   -- an entry at the distance that its label says, and the overlay's row from it
   pub through-exits :
-      (a first : ℕ) (labels : List ℕ) → Told (Gate chosen outward s a) first → ((b : ℕ) → b < length chosen → Told (Reaches O Any a b) (getD labels b 0)) → (l : ℕ) →
+      (a first : ℕ) (labels : List ℕ) → Told (Gate chosen outward s a) first → ((b : ℕ) → b < length chosen → Told (Reaches O Any a b) (labelAt labels b)) → (l : ℕ) →
       Told (Exits chosen labels inward t first (length chosen)) l → Told (Through O chosen outward inward s t a) l
   through-exits a first labels g w l x = record { none = none-by; some = some-by }
     where
       -- each sum over paths has one over labels under it
       under : (d : ℕ) → Through O chosen outward inward s t a d → (e : ℕ) × Exits chosen labels inward t first (length chosen) e × (e ≤ d)
-      under d h = by first (getD labels (h .exit) 0) refl refl
+      under d h = by first (labelAt labels (h .exit)) refl refl
         where
-          by : (f k : ℕ) → first ≡ f → getD labels (h .exit) 0 ≡ k → (e : ℕ) × Exits chosen labels inward t first (length chosen) e × (e ≤ d)
+          by : (f k : ℕ) → first ≡ f → labelAt labels (h .exit) ≡ k → (e : ℕ) × Exits chosen labels inward t first (length chosen) e × (e ≤ d)
           by zero k p q = absurd (g .none p .none (h .sum .first) (h .sum .in-first))
           by (suc f) zero p q = absurd (w (h .exit) (h .node) .none q .none (h .sum .second) (h .sum .in-second))
           by (suc f) (suc k) p q = (

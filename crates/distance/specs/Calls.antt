@@ -1,16 +1,13 @@
 -- The calls: what they are lent, what they say, and what they leave.
-use mathlib.Core.Path.{_≡_}
 use mathlib.Core.List.{List, [], _∷_, _++_}
-use Prim.Native.Nat.{ℕ, zero, suc, _+_, _*_, _≤_, _<_}
-use lib.ListN.{length, getD, replicate}
-use Rattle.paths.specs.Graphs.{Graph}
+use Prim.Native.Nat.{ℕ, _+_, _*_}
+use lib.ListN.{length, replicate}
 use Rattle.paths.specs.Least.{Least, Empty}
 use Rattle.road.specs.declared.Refusal.{Refusal}
 use Rattle.road.specs.Chains.{loneSetFaults, roadAndSetFaults}
 use Rattle.road.specs.Faults.{nodeFault, outsideFault, lengthsFault}
-use Rattle.road.specs.Limits.{roadLimits, overlayLimits}
 use Rattle.road.specs.Refusals.{Fault, First, None, Said, refusal, answer}
-use Rattle.road.specs.Roads.{nodesOf, road, Sound}
+use Rattle.road.specs.Roads.{nodesOf, road}
 use Rattle.overlay.specs.Lent.{overlayFault}
 use Rattle.distance.specs.declared.DistanceAnswer.{DistanceAnswer}
 use Rattle.distance.specs.declared.DistanceAnswer.the-variants.{Way, NoWay, Refused}
@@ -21,11 +18,6 @@ abbrev pub saidOf : DistanceAnswer → Said
 saidOf (Way d) = answer (1 ∷ d ∷ [])
 saidOf NoWay = answer (0 ∷ [])
 saidOf (Refused r) = refusal r
-
--- the same of a label
-abbrev pub saidLabel : ℕ → Said
-saidLabel zero = answer (0 ∷ [])
-saidLabel (suc d) = answer (1 ∷ d ∷ [])
 
 -- what is said of the weights P: the least of them, or no way where there is none
 pub data Answers (P : ℕ → Type 0) : Said → Type 0 where
@@ -39,6 +31,11 @@ pub record HandAreas : Type 0 where
   pub places : List ℕ
   pub touched : List ℕ
   pub blocked : List ℕ
+
+-- the same, gathered from the call's slices at one moment of it
+abbrev pub handAreas : {A : Type 0} → (A → List ℕ) → A → A → A → A → A → HandAreas
+handAreas at labels heap places touched blocked =
+    record { labels = at labels; heap = at heap; places = at places; touched = at touched; blocked = at blocked }
 
 abbrev pub handLengths : ℕ → HandAreas → List (ℕ × ℕ)
 handLengths n a = (length (a .labels), n) ∷ (length (a .heap), 2 * n) ∷ (length (a .places), n) ∷ (length (a .touched), n) ∷ (length (a .blocked), n) ∷ []
@@ -76,6 +73,22 @@ pub record PairAreas : Type 0 where
   pub places : List ℕ
   pub touched : List ℕ
   pub blocked : List ℕ
+
+-- the same, gathered from the call's slices at one moment of it
+abbrev pub pairAreas : {A : Type 0} → (A → List ℕ) → A → A → A → A → A → A → A → A → A → A → PairAreas
+pairAreas at starts heads weights outward inward labels heap places touched blocked =
+    record {
+      starts = at starts;
+      heads = at heads;
+      weights = at weights;
+      outward = at outward;
+      inward = at inward;
+      labels = at labels;
+      heap = at heap;
+      places = at places;
+      touched = at touched;
+      blocked = at blocked;
+    }
 
 -- the lengths of the graph turned round and of the rows
 abbrev pub rowLengths : ℕ → ℕ → List ℕ → List ℕ → List ℕ → List ℕ → List ℕ → List (ℕ × ℕ)
@@ -122,34 +135,3 @@ pub data PairOutcome (starts heads weights chosen starts′ heads′ weights′ 
       {said : Said} → None (pairFaults starts heads weights chosen starts′ heads′ weights′ s t before) →
       Answers (AnyPair (road starts heads weights) (road starts′ heads′ weights′) chosen s t) said →
       PairOutcome starts heads weights chosen starts′ heads′ weights′ s t before said (pairCleared (nodesOf starts) (length heads))
-
--- what the checks leave the handheld question
-pub record HandReady (starts heads weights : List ℕ) (s t : ℕ) (a : HandAreas) : Type 0 where
-  pub sound : Sound overlayLimits starts heads weights
-  pub from : s < nodesOf starts
-  pub to : t < nodesOf starts
-  pub labels-long : length (a .labels) ≡ nodesOf starts
-  pub heap-long : length (a .heap) ≡ 2 * nodesOf starts
-  pub places-long : length (a .places) ≡ nodesOf starts
-  pub touched-long : length (a .touched) ≡ nodesOf starts
-  pub blocked-long : length (a .blocked) ≡ nodesOf starts
-
--- and the any-pair question
-pub record PairReady (starts heads weights chosen starts′ heads′ weights′ : List ℕ) (s t : ℕ) (a : PairAreas) : Type 0 where
-  pub sound : Sound roadLimits starts heads weights
-  pub lent-sound : Sound overlayLimits starts′ heads′ weights′
-  pub as-many : nodesOf starts′ ≡ nodesOf starts
-  pub bytes : length chosen ≡ nodesOf starts
-  pub bits : (v : ℕ) → getD chosen v 0 ≤ 1
-  pub from : s < nodesOf starts
-  pub to : t < nodesOf starts
-  pub starts-long : length (a .starts) ≡ nodesOf starts + 1
-  pub heads-long : length (a .heads) ≡ length heads
-  pub weights-long : length (a .weights) ≡ length heads
-  pub outward-long : length (a .outward) ≡ nodesOf starts
-  pub inward-long : length (a .inward) ≡ nodesOf starts
-  pub labels-long : length (a .labels) ≡ nodesOf starts
-  pub heap-long : length (a .heap) ≡ 2 * nodesOf starts
-  pub places-long : length (a .places) ≡ nodesOf starts
-  pub touched-long : length (a .touched) ≡ nodesOf starts
-  pub blocked-long : length (a .blocked) ≡ nodesOf starts

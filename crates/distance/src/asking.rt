@@ -11,15 +11,17 @@ use search::search;
 use turning::turn;
 ghost use mathlib.Core.Path.{_≡_};
 ghost use lib.ListN.{length, replicate};
+ghost use Rattle.lent.specs.Slices.{before, after};
 ghost use Rattle.paths.specs.Least.{Told};
-ghost use Rattle.road.specs.Roads.{nodesOf, road};
-ghost use Rattle.distance.specs.Calls.{HandReady, PairReady, handCleared, pairCleared};
-ghost use Rattle.distance.specs.Labels.{RowsAsked, RowsFound, labelOf};
+ghost use Rattle.road.specs.Roads.{nodesOf, roadAt};
+ghost use Rattle.distance.specs.workings.Ready.{HandReady, PairReady};
+ghost use Rattle.distance.specs.Calls.{pairAreas, handAreas, handCleared, pairCleared};
+ghost use Rattle.distance.specs.workings.Labels.{RowsAsked, RowsFound, labelOf};
 ghost use Rattle.distance.specs.Questions.{AnyPair, Handheld};
 
 // Fills the queue, and what goes with it, with zeros.
 fn clear_queue(heap: &mut [u32], places: &mut [u32], touched: &mut [u32], blocked: &mut [u8])
-    ensures { λ _. ⌜ (now (heap .exit) ≡ replicate (length (now (heap .entry))) 0) × (now (places .exit) ≡ replicate (length (now (places .entry))) 0) × (now (touched .exit) ≡ replicate (length (now (touched .entry))) 0) × (now (blocked .exit) ≡ replicate (length (now (blocked .entry))) 0) ⌝ }
+    ensures { λ _. ⌜ (after heap ≡ replicate (length (before heap)) 0) × (after places ≡ replicate (length (before places)) 0) × (after touched ≡ replicate (length (before touched)) 0) × (after blocked ≡ replicate (length (before blocked)) 0) ⌝ }
 {
     clear(heap);
     clear(places);
@@ -36,8 +38,8 @@ fn clear_rows(
     inward: &mut [u64],
     labels: &mut [u64],
 )
-    ensures { λ _. ⌜ (now («starts_back» .exit) ≡ replicate (length (now («starts_back» .entry))) 0) × (now («heads_back» .exit) ≡ replicate (length (now («heads_back» .entry))) 0) × (now («weights_back» .exit) ≡ replicate (length (now («weights_back» .entry))) 0) ⌝ }
-    ensures { λ _. ⌜ (now (outward .exit) ≡ replicate (length (now (outward .entry))) 0) × (now (inward .exit) ≡ replicate (length (now (inward .entry))) 0) × (now (labels .exit) ≡ replicate (length (now (labels .entry))) 0) ⌝ }
+    ensures { λ _. ⌜ (after «starts_back» ≡ replicate (length (before «starts_back»)) 0) × (after «heads_back» ≡ replicate (length (before «heads_back»)) 0) × (after «weights_back» ≡ replicate (length (before «weights_back»)) 0) ⌝ }
+    ensures { λ _. ⌜ (after outward ≡ replicate (length (before outward)) 0) × (after inward ≡ replicate (length (before inward)) 0) × (after labels ≡ replicate (length (before labels)) 0) ⌝ }
 {
     clear(starts_back);
     clear(heads_back);
@@ -60,9 +62,9 @@ pub fn ask_overlay(
     touched: &mut [u32],
     blocked: &mut [u8],
 ) -> Distance
-    requires { ⌜ HandReady (now starts) (now heads) (now weights) s t (record { labels = now labels; heap = now heap; places = now places; touched = now touched; blocked = now blocked }) ⌝ }
-    ensures { λ r. ⌜ Told (Handheld (road (now (starts .entry)) (now (heads .entry)) (now (weights .entry))) s t) (labelOf r) ⌝ }
-    ensures { λ _. ⌜ record { labels = now (labels .exit); heap = now (heap .exit); places = now (places .exit); touched = now (touched .exit); blocked = now (blocked .exit) } ≡ handCleared (nodesOf (now (starts .entry))) ⌝ }
+    requires { ⌜ HandReady (now starts) (now heads) (now weights) s t (handAreas now labels heap places touched blocked) ⌝ }
+    ensures { λ r. ⌜ Told (Handheld (roadAt before starts heads weights) s t) (labelOf r) ⌝ }
+    ensures { λ _. ⌜ handAreas after labels heap places touched blocked ≡ handCleared (nodesOf (before starts)) ⌝ }
 {
     clear_queue(heap, places, touched, blocked);
     search(starts, heads, weights, blocked, s, labels, heap, places);
@@ -88,8 +90,8 @@ fn find_rows(
     places: &mut [u32],
 )
     requires { ⌜ RowsAsked (now starts) (now heads) (now weights) (now set) s t (now «starts_back») (now «heads_back») (now «weights_back») (now outward) (now inward) (now heap) (now places) ⌝ }
-    ensures { λ _. ⌜ RowsFound (road (now (starts .entry)) (now (heads .entry)) (now (weights .entry))) (now (set .entry)) s t (now (outward .exit)) (now (inward .exit)) ⌝ }
-    ensures { λ _. ⌜ (now (heap .exit) ≡ now (heap .entry)) × (now (places .exit) ≡ now (places .entry)) ⌝ }
+    ensures { λ _. ⌜ RowsFound (roadAt before starts heads weights) (before set) s t (after outward) (after inward) ⌝ }
+    ensures { λ _. ⌜ (after heap ≡ before heap) × (after places ≡ before places) ⌝ }
 {
     turn(
         starts,
@@ -134,9 +136,9 @@ pub fn ask_pair(
     touched: &mut [u32],
     blocked: &mut [u8],
 ) -> Distance
-    requires { ⌜ PairReady (now starts) (now heads) (now weights) (now set) (now «over_starts») (now «over_heads») (now «over_weights») s t (record { starts = now «starts_back»; heads = now «heads_back»; weights = now «weights_back»; outward = now outward; inward = now inward; labels = now labels; heap = now heap; places = now places; touched = now touched; blocked = now blocked }) ⌝ }
-    ensures { λ r. ⌜ Told (AnyPair (road (now (starts .entry)) (now (heads .entry)) (now (weights .entry))) (road (now («over_starts» .entry)) (now («over_heads» .entry)) (now («over_weights» .entry))) (now (set .entry)) s t) (labelOf r) ⌝ }
-    ensures { λ _. ⌜ record { starts = now («starts_back» .exit); heads = now («heads_back» .exit); weights = now («weights_back» .exit); outward = now (outward .exit); inward = now (inward .exit); labels = now (labels .exit); heap = now (heap .exit); places = now (places .exit); touched = now (touched .exit); blocked = now (blocked .exit) } ≡ pairCleared (nodesOf (now (starts .entry))) (length (now (heads .entry))) ⌝ }
+    requires { ⌜ PairReady (now starts) (now heads) (now weights) (now set) (now «over_starts») (now «over_heads») (now «over_weights») s t (pairAreas now «starts_back» «heads_back» «weights_back» outward inward labels heap places touched blocked) ⌝ }
+    ensures { λ r. ⌜ Told (AnyPair (roadAt before starts heads weights) (roadAt before «over_starts» «over_heads» «over_weights») (before set) s t) (labelOf r) ⌝ }
+    ensures { λ _. ⌜ pairAreas after «starts_back» «heads_back» «weights_back» outward inward labels heap places touched blocked ≡ pairCleared (nodesOf (before starts)) (length (before heads)) ⌝ }
 {
     clear_queue(heap, places, touched, blocked);
     find_rows(

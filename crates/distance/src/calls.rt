@@ -13,10 +13,12 @@ use road::node_count;
 use road::wide;
 ghost use mathlib.Core.Path.{_≡_};
 ghost use Prim.Native.Nat.{_≤_};
+ghost use Rattle.lent.specs.Slices.{before, after};
 ghost use Rattle.road.specs.Faults.{lengthsFault};
-ghost use Rattle.road.specs.Refusals.{Judged};
-ghost use Rattle.distance.specs.Calls.{HandOutcome, PairOutcome, handLengths, pairLengths, rowLengths, saidLabel, saidOf};
-ghost use Rattle.distance.specs.Labels.{labelOf};
+ghost use Rattle.road.specs.workings.Verdicts.{Judged};
+ghost use Rattle.distance.specs.Calls.{pairAreas, handAreas, HandOutcome, PairOutcome, handLengths, pairLengths, rowLengths, saidOf};
+ghost use Rattle.distance.specs.workings.Ready.{saidLabel};
+ghost use Rattle.distance.specs.workings.Labels.{labelOf};
 
 // A distance as an answer.
 fn answer(d: Distance) -> DistanceAnswer
@@ -38,7 +40,7 @@ fn check_hand_lengths(
     blocked: &[u8],
 ) -> Verdict
     requires { ⌜ n .0 ≤ 4096 ⌝ }
-    ensures { λ r. ⌜ Judged (lengthsFault (handLengths (n .0) (record { labels = now (labels .entry); heap = now (heap .entry); places = now (places .entry); touched = now (touched .entry); blocked = now (blocked .entry) }))) r ⌝ }
+    ensures { λ r. ⌜ Judged (lengthsFault (handLengths (n .0) (handAreas before labels heap places touched blocked))) r ⌝ }
 {
     if labels.len() != n.0 {
         return Verdict::Refused(Refusal::Lengths);
@@ -69,7 +71,7 @@ fn check_row_lengths(
     inward: &[u64],
 ) -> Verdict
     requires { ⌜ n .0 ≤ 4096 ⌝ }
-    ensures { λ r. ⌜ Judged (lengthsFault (rowLengths (n .0) (m .0) (now («starts_back» .entry)) (now («heads_back» .entry)) (now («weights_back» .entry)) (now (outward .entry)) (now (inward .entry)))) r ⌝ }
+    ensures { λ r. ⌜ Judged (lengthsFault (rowLengths (n .0) (m .0) (before «starts_back») (before «heads_back») (before «weights_back») (before outward) (before inward))) r ⌝ }
 {
     if starts_back.len() != n.0 + 1 {
         return Verdict::Refused(Refusal::Lengths);
@@ -104,7 +106,7 @@ pub fn handheld(
     touched: &mut [u32],
     blocked: &mut [u8],
 ) -> DistanceAnswer
-    ensures { λ r. ⌜ HandOutcome (now (set .entry)) (now («over_starts» .entry)) (now («over_heads» .entry)) (now («over_weights» .entry)) s t (record { labels = now (labels .entry); heap = now (heap .entry); places = now (places .entry); touched = now (touched .entry); blocked = now (blocked .entry) }) (saidOf r) (record { labels = now (labels .exit); heap = now (heap .exit); places = now (places .exit); touched = now (touched .exit); blocked = now (blocked .exit) }) ⌝ }
+    ensures { λ r. ⌜ HandOutcome (before set) (before «over_starts») (before «over_heads») (before «over_weights») s t (handAreas before labels heap places touched blocked) (saidOf r) (handAreas after labels heap places touched blocked) ⌝ }
 {
     let input = check_hand_input(set, over_starts, over_heads, over_weights, s, t);
     if let Verdict::Refused(r) = input {
@@ -146,7 +148,7 @@ fn check_pair_lengths(
     blocked: &[u8],
 ) -> Verdict
     requires { ⌜ n .0 ≤ 4096 ⌝ }
-    ensures { λ r. ⌜ Judged (lengthsFault (pairLengths (n .0) (m .0) (record { starts = now («starts_back» .entry); heads = now («heads_back» .entry); weights = now («weights_back» .entry); outward = now (outward .entry); inward = now (inward .entry); labels = now (labels .entry); heap = now (heap .entry); places = now (places .entry); touched = now (touched .entry); blocked = now (blocked .entry) }))) r ⌝ }
+    ensures { λ r. ⌜ Judged (lengthsFault (pairLengths (n .0) (m .0) (pairAreas before «starts_back» «heads_back» «weights_back» outward inward labels heap places touched blocked))) r ⌝ }
 {
     let rows = check_row_lengths(n, m, starts_back, heads_back, weights_back, outward, inward);
     let Verdict::Passed = rows else {
@@ -178,7 +180,7 @@ pub fn any_pair(
     touched: &mut [u32],
     blocked: &mut [u8],
 ) -> DistanceAnswer
-    ensures { λ r. ⌜ PairOutcome (now (starts .entry)) (now (heads .entry)) (now (weights .entry)) (now (set .entry)) (now («over_starts» .entry)) (now («over_heads» .entry)) (now («over_weights» .entry)) s t (record { starts = now («starts_back» .entry); heads = now («heads_back» .entry); weights = now («weights_back» .entry); outward = now (outward .entry); inward = now (inward .entry); labels = now (labels .entry); heap = now (heap .entry); places = now (places .entry); touched = now (touched .entry); blocked = now (blocked .entry) }) (saidOf r) (record { starts = now («starts_back» .exit); heads = now («heads_back» .exit); weights = now («weights_back» .exit); outward = now (outward .exit); inward = now (inward .exit); labels = now (labels .exit); heap = now (heap .exit); places = now (places .exit); touched = now (touched .exit); blocked = now (blocked .exit) }) ⌝ }
+    ensures { λ r. ⌜ PairOutcome (before starts) (before heads) (before weights) (before set) (before «over_starts») (before «over_heads») (before «over_weights») s t (pairAreas before «starts_back» «heads_back» «weights_back» outward inward labels heap places touched blocked) (saidOf r) (pairAreas after «starts_back» «heads_back» «weights_back» outward inward labels heap places touched blocked) ⌝ }
 {
     let input = check_pair_input(
         starts,

@@ -7,7 +7,8 @@ use road::check_lone_set;
 use road::check_nodes;
 use road::check_road_and_set;
 use road::node_count;
-ghost use Rattle.road.specs.Refusals.{Judges};
+ghost use Rattle.lent.specs.Slices.{before};
+ghost use Rattle.road.specs.workings.Verdicts.{Judges};
 ghost use Rattle.distance.specs.Calls.{handInput, pairInput};
 
 // The handheld question: 1 6 7 8 9.
@@ -19,7 +20,7 @@ pub fn check_hand_input(
     s: u32,
     t: u32,
 ) -> Verdict
-    ensures { λ r. ⌜ Judges (handInput (now (set .entry)) (now («over_starts» .entry)) (now («over_heads» .entry)) (now («over_weights» .entry)) s t) r ⌝ }
+    ensures { λ r. ⌜ Judges (handInput (before set) (before «over_starts») (before «over_heads») (before «over_weights») s t) r ⌝ }
 {
     let first = check_lone_set(set);
     let Verdict::Passed = first else {
@@ -48,7 +49,7 @@ pub fn check_pair_input(
     s: u32,
     t: u32,
 ) -> Verdict
-    ensures { λ r. ⌜ Judges (pairInput (now (starts .entry)) (now (heads .entry)) (now (weights .entry)) (now (set .entry)) (now («over_starts» .entry)) (now («over_heads» .entry)) (now («over_weights» .entry)) s t) r ⌝ }
+    ensures { λ r. ⌜ Judges (pairInput (before starts) (before heads) (before weights) (before set) (before «over_starts») (before «over_heads») (before «over_weights») s t) r ⌝ }
 {
     let first = check_road_and_set(starts, heads, weights, set);
     let Verdict::Passed = first else {

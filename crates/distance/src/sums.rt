@@ -3,8 +3,9 @@ use crate::Distance;
 ghost use mathlib.Core.Path.{_≡_};
 ghost use Prim.Native.Nat.{_<_};
 ghost use lib.ListN.{length};
+ghost use Rattle.lent.specs.Slices.{before};
 ghost use Rattle.paths.specs.Least.{Told};
-ghost use Rattle.distance.specs.Labels.{Gate, Lesser, Modest, Summed, labelOf};
+ghost use Rattle.distance.specs.workings.Labels.{Gate, Lesser, Modest, Summed, labelOf};
 
 // A label of the search as a distance.
 pub fn shown(label: u64) -> Distance
@@ -56,7 +57,7 @@ pub fn gate(set: &[u8], row: &[u64], s: usize, v: usize) -> Distance
     requires { ⌜ s < length (now set) ⌝ }
     requires { ⌜ v < length (now set) ⌝ }
     requires { ⌜ length (now row) ≡ length (now set) ⌝ }
-    ensures { λ r. ⌜ Told (Gate (now (set .entry)) (now (row .entry)) s v) (labelOf r) ⌝ }
+    ensures { λ r. ⌜ Told (Gate (before set) (before row) s v) (labelOf r) ⌝ }
 {
     if set[s] == 1 {
         if v == s {

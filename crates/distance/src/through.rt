@@ -8,9 +8,11 @@ use search::search;
 ghost use mathlib.Core.Path.{_≡_};
 ghost use Prim.Native.Nat.{_<_};
 ghost use lib.ListN.{length, getD};
+ghost use Rattle.lent.specs.Slices.{before, after};
 ghost use Rattle.paths.specs.Least.{Told};
-ghost use Rattle.road.specs.Roads.{nodesOf, road};
-ghost use Rattle.distance.specs.Labels.{Entries, Exits, Gate, Modest, Rows, Says, Searchable, Small, Sum, Through, labelOf};
+ghost use Rattle.road.specs.Roads.{nodesOf, roadAt};
+ghost use Rattle.distance.specs.workings.Labels.{Entries, Exits, Gate, Modest, Rows, Says, Searchable, Small, Sum, Through, labelOf};
+ghost use Rattle.search.specs.workings.Rows.{labelAt};
 
 // From s over an entry at the distance `first`, through the overlay, whose row of that entry is
 // given, and out at b.
@@ -29,7 +31,7 @@ fn through_exit(
     requires { ⌜ Small (now labels) ⌝ }
     requires { ⌜ Small (now inward) ⌝ }
     requires { ⌜ Modest (labelOf first) ⌝ }
-    ensures { λ r. ⌜ Told (Sum (Says (labelOf first)) (Says (getD (now (labels .entry)) b 0)) (Gate (now (set .entry)) (now (inward .entry)) t b)) (labelOf r) ⌝ }
+    ensures { λ r. ⌜ Told (Sum (Says (labelOf first)) (Says (labelAt (before labels) b)) (Gate (before set) (before inward) t b)) (labelOf r) ⌝ }
 {
     let middle = shown(labels[b]);
     let last = gate(set, inward, t, b);
@@ -44,7 +46,7 @@ fn through_exits(set: &[u8], labels: &[u64], inward: &[u64], t: usize, first: Di
     requires { ⌜ Small (now labels) ⌝ }
     requires { ⌜ Small (now inward) ⌝ }
     requires { ⌜ Modest (labelOf first) ⌝ }
-    ensures { λ r. ⌜ Told (Exits (now (set .entry)) (now (labels .entry)) (now (inward .entry)) t (labelOf first) (length (now (set .entry)))) (labelOf r) ⌝ }
+    ensures { λ r. ⌜ Told (Exits (before set) (before labels) (before inward) t (labelOf first) (length (before set))) (labelOf r) ⌝ }
 {
     let mut best = Distance::NoWay;
     let mut b = 0;
@@ -75,8 +77,8 @@ fn through_entry(
     requires { ⌜ Searchable (now starts) (now heads) (now weights) (now blocked) (now labels) (now heap) (now places) ⌝ }
     requires { ⌜ Rows (now set) (now outward) (now inward) s t (nodesOf (now starts)) ⌝ }
     requires { ⌜ a < nodesOf (now starts) ⌝ }
-    ensures { λ r. ⌜ Told (Through (road (now (starts .entry)) (now (heads .entry)) (now (weights .entry))) (now (set .entry)) (now (outward .entry)) (now (inward .entry)) s t a) (labelOf r) ⌝ }
-    ensures { λ _. ⌜ (now (heap .exit) ≡ now (heap .entry)) × (now (places .exit) ≡ now (places .entry)) ⌝ }
+    ensures { λ r. ⌜ Told (Through (roadAt before starts heads weights) (before set) (before outward) (before inward) s t a) (labelOf r) ⌝ }
+    ensures { λ _. ⌜ (after heap ≡ before heap) × (after places ≡ before places) ⌝ }
 {
     let first = gate(set, outward, s, a);
     let Distance::Way(_) = first else {
@@ -103,8 +105,8 @@ pub fn through_overlay(
 ) -> Distance
     requires { ⌜ Searchable (now starts) (now heads) (now weights) (now blocked) (now labels) (now heap) (now places) ⌝ }
     requires { ⌜ Rows (now set) (now outward) (now inward) s t (nodesOf (now starts)) ⌝ }
-    ensures { λ r. ⌜ Told (Entries (road (now (starts .entry)) (now (heads .entry)) (now (weights .entry))) (now (set .entry)) (now (outward .entry)) (now (inward .entry)) s t (length (now (set .entry)))) (labelOf r) ⌝ }
-    ensures { λ _. ⌜ (now (heap .exit) ≡ now (heap .entry)) × (now (places .exit) ≡ now (places .entry)) ⌝ }
+    ensures { λ r. ⌜ Told (Entries (roadAt before starts heads weights) (before set) (before outward) (before inward) s t (length (before set))) (labelOf r) ⌝ }
+    ensures { λ _. ⌜ (after heap ≡ before heap) × (after places ≡ before places) ⌝ }
 {
     let mut best = Distance::NoWay;
     let mut a = 0;

@@ -1,35 +1,53 @@
 -- What the thinning call promises, of every outcome that its contract allows.
 use mathlib.Core.Path.{_≡_, refl, sym, ap, subst}
 use mathlib.Core.List.{List, [], _∷_, _++_}
-use Prim.Native.Nat.{ℕ, _+_, _≤_}
-use native.Mathlib.Omega.{arith}
+use Prim.Native.Nat.{ℕ, suc, _+_, _≤_}
 use lib.ListN.{length, getD, take, drop}
 use lib.Seq.{take-append-seam}
 use Rattle.paths.specs.Lists.{Different}
 use Rattle.road.specs.Chains.{driveFaults}
-use Rattle.road.specs.Faults.{BadK, lengthFault}
+use Rattle.road.specs.declared.Refusal.{Refusal}
+use Rattle.road.specs.Faults.{lengthFault}
 use Rattle.road.specs.Limits.{roadLimits}
-use Rattle.road.specs.Refusals.{Singles, Said, refusal, answer}
-use Rattle.road.specs.Roads.{road, Sound}
-use Rattle.road.proofs.Faults.{not-over}
-use Rattle.road.proofs.Refusals.{of-single, first-one, first-not-none, none-front, number-some, unheld}
+use Rattle.road.specs.workings.Verdicts.{Singles}
+use Rattle.road.specs.Order.{Numbered, HoldsAt, NoneTo}
+use Rattle.road.specs.Refusals.{Said, refusal, answer}
+use Rattle.road.specs.Roads.{road}
+use Rattle.road.specs.workings.Sound.{Sound}
+use Rattle.road.proofs.Faults.{graph-numbered}
+use Rattle.road.proofs.Refusals.{of-single, of-number, first-one, first-at, first-not-none, none-front, number-some, refusal-one, refusal-no-answer}
 use Rattle.road.proofs.Verdicts.{singles-both, drive-singles}
 use Rattle.cover.specs.Calls as covering
 use Rattle.rule.specs.Promise.{Covers}
 use Rattle.rule.specs.Rule.{PathOf}
 use Rattle.cover.proofs.Demands as covers
-use Rattle.drive.specs.Calls.{Outcome, refused, thinned, faultsOf}
+use Rattle.drive.specs.declared.ThinAnswer.{ThinAnswer}
+use Rattle.drive.specs.declared.ThinAnswer.the-variants.{Thinned, Refused}
+use Rattle.drive.specs.Calls.{Outcome, refused, thinned, faultsOf, saidOf}
 use Rattle.drive.specs.Promise.{stretch, Includes, KeepsSet}
 use Rattle.drive.specs.Thinning.{IsDrive, ThinnedDrive}
 use Rattle.drive.proofs.Outcomes.{input-sound, input-drive}
 use Rattle.drive.proofs.Unique.{thinned-one}
 use Rattle.drive.proofs.Rows.{row-kept, stretch-path}
 
+-- what is said loses nothing of the answer
+pub said-one : (a b : ThinAnswer) → saidOf a ≡ saidOf b → a ≡ b
+said-one (Thinned c) (Thinned d) e = ap (λ (n : ℕ). Thinned (record { 0 = n })) (ap (λ (x : Said). getD (x .values) 0 0) e)
+said-one (Thinned c) (Refused r) e = absurd (refusal-no-answer r (c .0 ∷ []) (sym e))
+said-one (Refused r) (Thinned c) e = absurd (refusal-no-answer r (c .0 ∷ []) e)
+said-one (Refused r) (Refused s) e = ap Refused (refusal-one r s e)
+
 module _ (starts heads weights bytes drive positions : List ℕ) where
   all-singles : Singles (faultsOf starts heads weights bytes drive positions)
   all-singles =
       singles-both (driveFaults starts heads weights bytes drive) (lengthFault (length positions) (length drive) ∷ []) (drive-singles starts heads weights bytes drive)
       (of-single, tt)
+
+  -- document 01's order: the faults tell these numbers, one after the other
+  pub numbered : Numbered (faultsOf starts heads weights bytes drive positions) (1 ∷ 2 ∷ 3 ∷ 6 ∷ 10 ∷ 11 ∷ [])
+  numbered =
+      let g = graph-numbered roadLimits starts heads weights in
+      (g .0, (g .1 .0, (g .1 .1 .0, (of-number, (of-number, (of-number, tt))))))
 
 module _ {starts heads weights bytes drive positions : List ℕ} where
   -- two outcomes that the contract allows are equal
@@ -45,6 +63,19 @@ module _ {starts heads weights bytes drive positions : List ℕ} where
   outcome-one (thinned {kept = l} n p) (thinned {kept = m} o q) =
       let same = thinned-one bytes drive l m p q in
       (ap (λ (k : List ℕ). answer (length k ∷ [])) same, ap (λ (k : List ℕ). k ++ drop (length k) positions) same)
+
+  -- and so are two answers
+  pub answer-one :
+      (a b : ThinAnswer) {after after′ : List ℕ} → Outcome starts heads weights bytes drive positions (saidOf a) after → Outcome starts heads weights bytes drive positions (saidOf b) after′ →
+      (a ≡ b) × (after ≡ after′)
+  answer-one a b o p = let e = outcome-one o p in (said-one a b (e .0), e .1)
+
+  -- an input with two neighbouring faults, and none before them, is refused by the first
+  pub in-order :
+      {said : Said} {after : List ℕ} → Outcome starts heads weights bytes drive positions said after → (i : ℕ) (r s : Refusal) →
+      NoneTo (faultsOf starts heads weights bytes drive positions) i → HoldsAt (faultsOf starts heads weights bytes drive positions) i r →
+      HoldsAt (faultsOf starts heads weights bytes drive positions) (suc i) s → said ≡ refusal r
+  in-order o i r s n f g = outcome-one o (refused (first-at (faultsOf starts heads weights bytes drive positions) i r n f)) .0
 
 -- an outcome that is an answer: nothing was at fault, and the slice's front is the thinned drive, as long as the count says
 pub record Answer (starts heads weights bytes drive positions : List ℕ) (count : ℕ) (after : List ℕ) : Type 0 where
@@ -97,8 +128,7 @@ module _ {starts heads weights bytes drive positions : List ℕ} where
 some-k :
     {starts heads weights : List ℕ} {k : ℕ} {order : List ℕ} {before : covering.Areas} {said : Said} {given : covering.Areas} →
     covering.Outcome starts heads weights k order before said given → said .number ≡ 0 → 1 ≤ k
-some-k (covering.refused {r = r} f) e = absurd (number-some r e)
-some-k {k = k} (covering.covered n p) e = not-over 1 k (λ l. unheld (n .1 .1 .1 .0) (BadK.none (omega arith)))
+some-k o e = covers.answer-of o e .k-right .some
 
 -- for the set that the cover call gives for this graph and k, whatever weights the two calls were lent
 pub cover-given :

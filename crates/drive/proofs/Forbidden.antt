@@ -12,7 +12,8 @@ use Rattle.paths.proofs.Weights.{path-short}
 use Rattle.road.specs.Drives.{Joined}
 use Rattle.road.specs.Limits.{mostDrive, roadLimits}
 use Rattle.road.specs.Refusals.{None, Said, answer}
-use Rattle.road.specs.Roads.{nodesOf, road, Sound}
+use Rattle.road.specs.Roads.{nodesOf, road}
+use Rattle.road.specs.workings.Sound.{Sound}
 use Rattle.road.proofs.Faults.{none-of-sound, set-clear}
 use Rattle.road.proofs.Refusals.{first-not-none, untold}
 use Rattle.road.proofs.Rows.{owner-node}
@@ -20,8 +21,8 @@ use Rattle.rule.specs.Promise.{Covers}
 use Rattle.rule.specs.Rule.{PathOf}
 use Rattle.drive.specs.Calls.{Outcome, refused, thinned, faultsOf}
 use Rattle.drive.specs.Promise.{Includes}
-use Rattle.drive.specs.Thinning.{IsDrive, Ascending}
-use Rattle.drive.proofs.Demands.{answer-of}
+use Rattle.drive.specs.Thinning.{IsDrive, Ascending, ThinnedDrive}
+use Rattle.drive.proofs.Demands.{answer-of, outcome-one}
 use Rattle.drive.proofs.Outcomes.{drive-passes}
 
 module _ {starts heads weights bytes drive positions : List ℕ} where
@@ -40,6 +41,12 @@ module _ {starts heads weights bytes drive positions : List ℕ} where
       let n = none-of-sound roadLimits starts heads weights g in
       accepted o
       (n .0, (n .1 .0, (n .1 .1 .0, (untold (set-clear (nodesOf starts) bytes s b), (untold (drive-passes starts heads drive d a m), (untold (λ u. u r), tt))))))
+
+  -- A made-up count: it is the length of the thinned drive.
+  pub counts :
+      {said : Said} {after kept : List ℕ} → Outcome starts heads weights bytes drive positions said after → None (faultsOf starts heads weights bytes drive positions) →
+      ThinnedDrive bytes drive kept → said ≡ answer (length kept ∷ [])
+  counts o n t = outcome-one o (thinned n t) .0
 
   -- A refusal touches the result: it leaves the slice as it was.
   pub refusal-leaves : {said : Said} {after : List ℕ} → Outcome starts heads weights bytes drive positions said after → said .number ≢ 0 → after ≡ positions

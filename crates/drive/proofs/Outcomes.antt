@@ -10,15 +10,20 @@ use Rattle.road.specs.declared.Refusal.{Refusal}
 use Rattle.road.specs.declared.Verdict.{Verdict}
 use Rattle.road.specs.declared.Verdict.the-variants.{Passed, Refused}
 use Rattle.road.specs.Chains.{driveFaults}
-use Rattle.road.specs.Drives.{Joined, BadDrive, none, many, outside, apart, driveFault}
-use Rattle.road.specs.Faults.{BadSet, setFault, graphFaults, lengthFault}
+use Rattle.road.specs.Drives.{Joined, BadDrive, none, many, outside, apart}
+use Rattle.road.specs.Faults.{lengthFault}
 use Rattle.road.specs.Limits.{mostDrive, roadLimits}
-use Rattle.road.specs.Refusals.{None, Judged, Judges, refusal, answer}
-use Rattle.road.specs.Roads.{nodesOf, Owns, Sound}
-use Rattle.road.proofs.Faults.{not-over, not-unlike, sound-of}
-use Rattle.road.proofs.Refusals.{judged-alone, stops, goes-on, none-front, unheld}
+use Rattle.road.specs.Refusals.{None, refusal, answer}
+use Rattle.road.specs.workings.Left.{DriveLeft}
+use Rattle.road.proofs.Left.{drive-left}
+use Rattle.road.specs.workings.Verdicts.{Judged, Judges}
+use Rattle.road.specs.Roads.{nodesOf, Owns}
+use Rattle.road.specs.workings.Sound.{Sound}
+use Rattle.road.proofs.Faults.{not-over, not-unlike}
+use Rattle.road.proofs.Refusals.{judged-alone, stops, goes-on, unheld}
 use Rattle.drive.specs.Calls.{Outcome, refused, thinned, faultsOf}
-use Rattle.drive.specs.Thinning.{IsDrive, Fits, Picking}
+use Rattle.drive.specs.Thinning.{IsDrive}
+use Rattle.drive.specs.workings.Picking.{Fits, Picking}
 use Rattle.drive.proofs.Picks.{picking-end}
 
 -- whether two nodes are joined is decided: there are only so many places
@@ -74,20 +79,22 @@ drive-passes starts heads drive d a b (apart i h o) = o (d .joins i h)
 
 -- what no fault of the input says
 module _ (starts heads weights bytes drive : List ℕ) (n : None (driveFaults starts heads weights bytes drive)) where
+  left : DriveLeft starts heads weights bytes drive
+  left = drive-left starts heads weights bytes drive n
+
   pub input-sound : Sound roadLimits starts heads weights
-  input-sound = sound-of roadLimits starts heads weights (none-front (graphFaults roadLimits starts heads weights) (setFault (nodesOf starts) bytes ∷ driveFault starts heads drive ∷ []) n)
+  input-sound = left .road-and-set .sound
 
   pub input-drive : IsDrive starts heads drive
-  input-drive = drive-of starts heads drive (unheld (n .1 .1 .1 .1 .0))
-
-  set-long : length bytes ≡ nodesOf starts
-  set-long = not-unlike (length bytes) (nodesOf starts) (λ d. unheld (n .1 .1 .1 .0) (BadSet.unlike d))
-
-  few : length drive ≤ mostDrive
-  few = not-over (length drive) mostDrive (λ h. unheld (n .1 .1 .1 .1 .0) (many h))
+  input-drive = drive-of starts heads drive (left .drive-right)
 
   pub input-fits : (positions : List ℕ) → length positions ≡ length drive → Fits bytes drive positions
-  input-fits positions e = record { nodes = λ i h. omega (arith, input-drive .nodes i h, set-long); few = few; room = e }
+  input-fits positions e =
+      record {
+        nodes = λ i h. omega (arith, input-drive .nodes i h, left .road-and-set .set-right .bytes);
+        few = not-over (length drive) mostDrive (λ h. left .drive-right (many h));
+        room = e;
+      }
 
 -- From the checks to the outcome.
 module _ (starts heads weights bytes drive positions : List ℕ) where

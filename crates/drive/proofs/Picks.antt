@@ -11,9 +11,10 @@ use lib.ListN.{length, getD, set, drop, length-set, length-append}
 use lib.Seq.{append-snoc, drop-cons, set-at}
 use Rattle.paths.specs.Lists.{Mem, Each}
 use Rattle.paths.proofs.Lists.{each-mem, mem-cases, mem-left, mem-right, mem-each}
-use Rattle.road.specs.Refusals.{Tells}
+use Rattle.road.specs.workings.Verdicts.{Tells}
 use Rattle.road.proofs.Refusals.{tells-yes, tells-no}
-use Rattle.drive.specs.Thinning.{Ascending, ListOf, Kept, KeptBefore, Fits, Picking, ThinnedDrive}
+use Rattle.drive.specs.Thinning.{Ascending, ListOf, Kept, ThinnedDrive}
+use Rattle.drive.specs.workings.Picking.{KeptBefore, Fits, Picking}
 
 -- the ascending list of some numbers depends on the numbers alone
 pub list-same : {P Q : ℕ → Type 0} (l : List ℕ) → ((i : ℕ) → P i → Q i) → ((i : ℕ) → Q i → P i) → ListOf P l → ListOf Q l

@@ -2,3 +2,4 @@
 pub mod Thinning
 pub mod Calls
 pub mod Promise
+pub mod workings

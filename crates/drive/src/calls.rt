@@ -4,6 +4,7 @@ use crate::picking::pick;
 use road::Verdict;
 use road::check_drive_input;
 use road::check_length;
+ghost use Rattle.lent.specs.Slices.{before, after};
 ghost use Rattle.drive.specs.Calls.{Outcome, saidOf};
 
 // Thins the drive: the ascending list of the positions, from 0, whose node is in the set, at the
@@ -16,7 +17,7 @@ pub fn thin(
     drive: &[u32],
     positions: &mut [u32],
 ) -> ThinAnswer
-    ensures { λ r. ⌜ Outcome (now (starts .entry)) (now (heads .entry)) (now (weights .entry)) (now (set .entry)) (now (drive .entry)) (now (positions .entry)) (saidOf r) (now (positions .exit)) ⌝ }
+    ensures { λ r. ⌜ Outcome (before starts) (before heads) (before weights) (before set) (before drive) (before positions) (saidOf r) (after positions) ⌝ }
 {
     let input = check_drive_input(starts, heads, weights, set, drive);
     if let Verdict::Refused(r) = input {

@@ -3,14 +3,16 @@ use crate::PositionCount;
 use road::wide;
 ghost use Prim.Native.Nat.{_<_};
 ghost use lib.ListN.{length, getD};
-ghost use Rattle.road.specs.Refusals.{Tells};
-ghost use Rattle.drive.specs.Thinning.{Fits, Kept, Picking};
+ghost use Rattle.lent.specs.Slices.{before, after};
+ghost use Rattle.road.specs.workings.Verdicts.{Tells};
+ghost use Rattle.drive.specs.workings.Picking.{Fits, Picking};
+ghost use Rattle.drive.specs.Thinning.{Kept};
 
 // Whether position i is kept.
 fn is_kept(set: &[u8], drive: &[u32], i: usize) -> bool
     requires { ⌜ i < length (now drive) ⌝ }
     requires { ⌜ getD (now drive) i 0 < length (now set) ⌝ }
-    ensures { λ r. ⌜ Tells r (Kept (now (set .entry)) (now (drive .entry)) i) ⌝ }
+    ensures { λ r. ⌜ Tells r (Kept (before set) (before drive) i) ⌝ }
 {
     if set[wide(drive[i])] == 1 {
         return true;
@@ -21,7 +23,7 @@ fn is_kept(set: &[u8], drive: &[u32], i: usize) -> bool
 // Writes the kept positions from the front on, ascending, and gives their count.
 pub fn pick(set: &[u8], drive: &[u32], positions: &mut [u32]) -> PositionCount
     requires { ⌜ Fits (now set) (now drive) (now positions) ⌝ }
-    ensures { λ r. ⌜ Picking (now (set .entry)) (now (drive .entry)) (now (positions .entry)) (length (now (drive .entry))) (now (positions .exit)) (r .0) ⌝ }
+    ensures { λ r. ⌜ Picking (before set) (before drive) (before positions) (length (before drive)) (after positions) (r .0) ⌝ }
 {
     let mut count = 0;
     let mut i = 0;

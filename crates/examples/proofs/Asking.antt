@@ -12,7 +12,8 @@ use Rattle.road.specs.Refusals.{Said}
 use Rattle.road.specs.Roads.{road}
 use Rattle.overlay.specs.Overlays.{Outside}
 use Rattle.overlay.proofs.Locals.{in-bytes}
-use Rattle.distance.specs.Calls.{Answers, saidLabel}
+use Rattle.distance.specs.Calls.{Answers}
+use Rattle.distance.specs.workings.Ready.{saidLabel}
 use Rattle.distance.specs.Questions.{Lone, WayIn, WayOut, AnyPair}
 use Rattle.distance.proofs.Demands.{answers-one}
 use Rattle.distance.proofs.Outcomes.{answers-of}

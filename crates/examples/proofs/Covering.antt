@@ -6,7 +6,7 @@ use mathlib.Core.List.{List, [], _∷_}
 use Prim.Native.Nat.{ℕ}
 use lib.ListN.{length, getD, set, replicate}
 use Rattle.paths.specs.Lists.{Mem}
-use Rattle.road.specs.Refusals.{Tells}
+use Rattle.road.specs.workings.Verdicts.{Tells}
 use Rattle.road.specs.Roads.{nodesOf, road}
 use Rattle.rule.specs.Rule.{Dropped, Needed, Prunes, done, keep, drop, Pruned, PathOf}
 use Rattle.rule.proofs.Rules.{prunes-one}

@@ -11,7 +11,7 @@ use lib.Dec.{T, eqb, leb, eqb→eq, eqb-refl, leb→le, le→leb}
 use Rattle.paths.specs.Lists.{Mem, Different, Each, Inside}
 use Rattle.paths.proofs.Lists.{each-mem, mem-each}
 use Rattle.road.specs.Faults.{InSet}
-use Rattle.road.specs.Refusals.{Tells}
+use Rattle.road.specs.workings.Verdicts.{Tells}
 use Rattle.road.proofs.Refusals.{tells-yes, tells-no}
 
 pub record Decider (P : Type 0) : Type 0 where

@@ -8,3 +8,4 @@ pub mod Asking
 pub mod Refusing
 pub mod Faulting
 pub mod AllRight
+pub mod Outcomes

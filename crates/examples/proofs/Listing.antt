@@ -10,7 +10,7 @@ use Rattle.paths.specs.Least.{Least, Told}
 use Rattle.paths.specs.Lists.{Mem}
 use Rattle.paths.proofs.Least.{told-carries}
 use Rattle.paths.proofs.Lists.{mem-left, mem-right, mem-cases}
-use Rattle.road.specs.Refusals.{Tells}
+use Rattle.road.specs.workings.Verdicts.{Tells}
 use Rattle.road.proofs.Faults.{not-over}
 use Rattle.examples.proofs.Deciding.{Decider, given, both, always, never, member, throughout, atMost, tells-at-most, Below, some-more, some-less}
 

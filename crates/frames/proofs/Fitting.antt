@@ -11,7 +11,8 @@ use Rattle.road.specs.declared.ArcCount.{ArcCount}
 use Rattle.readings.specs.declared.Line.{Line}
 use Rattle.readings.specs.declared.Line.the-variants.{Head, Arc, Question, Drive, Wrong}
 use Rattle.readings.specs.Frames.{Reads}
-use Rattle.frames.specs.Held.{BuildFits, Lengths, Limited, ReadFits, mapRoom}
+use Rattle.frames.specs.workings.Held.{BuildFits, Limited, ReadFits}
+use Rattle.frames.specs.Held.{Lengths, mapRoom}
 
 -- the front of an area, as it is lent and as it came back
 pub front : (k : ℕ) (l : List ℕ) → midOf 0 (k - 0) l ≡ take k l

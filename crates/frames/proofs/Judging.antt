@@ -23,8 +23,10 @@ use Rattle.readings.specs.declared.Line.the-variants.{Head, Arc, Question, Driv
 use Rattle.readings.specs.Frames.{Frame, head, arc, question, drive, ReadAs, Reads, Tells}
 use Rattle.frames.specs.declared.State.{State}
 use Rattle.frames.specs.declared.Phase.the-variants.{Loading}
-use Rattle.frames.specs.Held.{Answered, Printed, Thinned, stageIf}
-use Rattle.frames.specs.Stages.{Areas, Falls, Judged, Left, Says, TookLine, areas, due, goes, loadingIn, mapOf, stage, undue}
+use Rattle.frames.specs.workings.Held.{Answered, Thinned}
+use Rattle.frames.specs.Held.{Printed, stageIf}
+use Rattle.frames.specs.Stages.{Areas, Left, TookLine, areas, goes, loadingIn, mapOf, stage}
+use Rattle.frames.specs.workings.Judging.{Falls, Judged, Says, due, undue}
 use Rattle.frames.specs.Steps.{Map, Stage, Builds, Due, Loads, Runs, Step, line, begun, loading, asking, stopped, more, complete, first, next, asked, driven, begins, loads, answers, thins, wrong, taken, refusedBy}
 use Rattle.frames.proofs.Fitting.{front}
 use Rattle.frames.proofs.Standing.{left-as, runs}

@@ -2,18 +2,16 @@
 use mathlib.Core.Path.{_≡_, refl, sym, ap, subst, _∙_}
 use mathlib.Core.Bool.{Bool, true, false}
 use mathlib.Core.List.{List, [], _∷_, _++_}
-use Prim.Native.Nat.{ℕ, zero, suc, _+_, _-_, _*_, _≤_, _<_}
+use Prim.Native.Nat.{ℕ, suc, _+_, _-_, _*_, _≤_}
 use native.Mathlib.Omega.{arith}
 use borrow.Rule.Slice.PartMut.{midOf}
 use lib.Dec.{eqb}
 use lib.ListN.{length, getD, take, drop, length-append}
 use lib.Seq.{take-append-seam}
-use Rattle.paths.specs.Graphs.{Graph}
 use Rattle.road.specs.declared.Refusal.{Refusal}
-use Rattle.road.specs.declared.Refusal.the-variants.{Room}
 use Rattle.road.specs.Chains.{coverFaults, roadAndSetFaults}
 use Rattle.road.specs.Counting.{times}
-use Rattle.road.specs.Refusals.{First, None, Said, refusal, answer, numberOf}
+use Rattle.road.specs.Refusals.{None, Said, refusal, answer}
 use Rattle.road.specs.Roads.{nodesOf, road}
 use Rattle.cover.specs.declared.CoverAnswer.{CoverAnswer}
 use Rattle.cover.specs.declared.CoverAnswer.the-variants as CA
@@ -24,14 +22,15 @@ use Rattle.overlay.specs.declared.OverlayAnswer.the-variants as OA
 use Rattle.overlay.specs.Calls.{TooMany, saidOf as overlaySaid}
 use Rattle.overlay.specs.Overlays.{OverlayOf}
 use Rattle.hexlines.proofs.Growing.{wrote-then, wrote-long}
-use Rattle.hexlines.specs.Outputs.{Out, counts, refused, outText, textOf}
+use Rattle.hexlines.specs.Outputs.{counts, refused, outText, textOf}
 use Rattle.hexlines.specs.Writers.{Wrote}
 use Rattle.maps.proofs.Printed.{lines-then, text-append}
-use Rattle.maps.specs.Calls.{CoverFound, OverlayFound}
+use Rattle.maps.specs.workings.Calls.{CoverFound, OverlayFound}
 use Rattle.maps.specs.Lists.{arcLines, belows, numbers, pointIf, pointLines}
-use Rattle.maps.specs.Printing.{RowsFit}
-use Rattle.frames.specs.Held.{Built, Laid, LayFits, mapRoom, stageIf}
-use Rattle.frames.specs.Steps.{Map, Stage, asking, stopped, Builds, refusedBy, no-cover, no-overlay, no-room, built, overRoom}
+use Rattle.maps.specs.workings.Printing.{RowsFit}
+use Rattle.frames.specs.workings.Held.{Built, Laid, LayFits}
+use Rattle.frames.specs.Held.{stageIf}
+use Rattle.frames.specs.Steps.{Map, asking, stopped, Builds, refusedBy, no-cover, no-overlay, no-room, built, overRoom}
 use Rattle.frames.proofs.Fitting.{front}
 use Rattle.frames.proofs.Saids.{size}
 

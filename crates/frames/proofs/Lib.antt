@@ -5,3 +5,4 @@ pub mod Standing
 pub mod Judging
 pub mod Cuts
 pub mod Unique
+pub mod Forbidden

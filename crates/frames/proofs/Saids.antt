@@ -1,26 +1,16 @@
 -- What the calls say, as what the step does.
 use mathlib.Core.Path.{_≡_, refl, sym, ap, subst, _∙_}
-use mathlib.Core.Logic.{_⊎_, inl, inr}
 use mathlib.Core.Bool.{Bool, true, false}
 use mathlib.Core.List.{List, [], _∷_, _++_}
-use Prim.Native.Nat.{ℕ, zero, suc, _+_, _-_, _*_, _≤_, _<_}
+use Prim.Native.Nat.{ℕ, _+_, _-_, _*_, _≤_}
 use native.Mathlib.Omega.{arith}
 use borrow.Rule.Slice.PartMut.{midOf}
 use lib.ListN.{length, getD, take, drop, length-append}
 use lib.Seq.{take-append-seam}
 use Rattle.road.specs.declared.Refusal.{Refusal}
-use Rattle.road.specs.Chains.{coverFaults, roadAndSetFaults, driveFaults}
-use Rattle.road.specs.Counting.{times}
+use Rattle.road.specs.Chains.{driveFaults}
 use Rattle.road.specs.Faults.{lengthFault}
 use Rattle.road.specs.Refusals.{Fault, First, None, Said, refusal, answer, numberOf}
-use Rattle.road.specs.Roads.{nodesOf, road}
-use Rattle.cover.specs.declared.CoverAnswer.{CoverAnswer}
-use Rattle.cover.specs.declared.CoverAnswer.the-variants as CA
-use Rattle.cover.specs.Calls.{saidOf as coverSaid}
-use Rattle.rule.specs.Rule.{PathOf, Pruned}
-use Rattle.overlay.specs.declared.OverlayAnswer.{OverlayAnswer}
-use Rattle.overlay.specs.declared.OverlayAnswer.the-variants as OA
-use Rattle.overlay.specs.Calls.{saidOf as overlaySaid}
 use Rattle.distance.specs.declared.DistanceAnswer.{DistanceAnswer}
 use Rattle.distance.specs.declared.DistanceAnswer.the-variants as DA
 use Rattle.distance.specs.Calls.{saidOf as distanceSaid}
@@ -29,15 +19,14 @@ use Rattle.drive.specs.declared.ThinAnswer.{ThinAnswer}
 use Rattle.drive.specs.declared.ThinAnswer.the-variants as TA
 use Rattle.drive.specs.Calls as T
 use Rattle.drive.specs.Thinning.{ThinnedDrive}
-use Rattle.hexlines.proofs.Growing.{wrote-then, wrote-long}
-use Rattle.hexlines.specs.Outputs.{Out, counts, way, no-way, kept, refused, outText, textOf}
+use Rattle.hexlines.specs.Outputs.{way, no-way, kept, refused, outText, textOf}
 use Rattle.hexlines.specs.Writers.{Wrote}
 use Rattle.maps.proofs.Founds.{first-of, none-of}
 use Rattle.maps.proofs.Printed.{line-one}
-use Rattle.maps.specs.Calls.{CoverFound, OverlayFound, PairFound}
-use Rattle.maps.specs.Lists.{arcLines, pointLines, numbers}
-use Rattle.frames.specs.Held.{Answered, Thinned, stageIf}
-use Rattle.frames.specs.Steps.{Map, Stage, asking, stopped, Answers, Builds, Thins, refusedBy, not-asked, a-way, none, no-drive, thinned, no-cover, no-overlay, no-room, built}
+use Rattle.maps.specs.workings.Calls.{PairFound}
+use Rattle.frames.specs.workings.Held.{Answered, Thinned}
+use Rattle.frames.specs.Held.{stageIf}
+use Rattle.frames.specs.Steps.{Map, asking, stopped, Answers, Thins, refusedBy, not-asked, a-way, none, no-drive, thinned}
 
 pub refusal-wrote :
     (out : List ℕ) (at : ℕ) (r : Refusal) (n ℓ : ℕ) (out′ : List ℕ) (at′ : ℕ) → n ≡ numberOf r → Wrote out at (outText (refused n ℓ)) out′ at′ →

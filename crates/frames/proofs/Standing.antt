@@ -16,8 +16,10 @@ use Rattle.maps.specs.Lists.{belows, startsOf}
 use Rattle.frames.specs.declared.State.{State}
 use Rattle.frames.specs.declared.Phase.{Phase}
 use Rattle.frames.specs.declared.Phase.the-variants.{Begun, Loading, Asking, Stopped}
-use Rattle.frames.specs.Held.{Built, Counted, Good, Printed, stageIf}
-use Rattle.frames.specs.Stages.{Areas, Falls, Halted, Left, Settled, TookEnd, TookLine, TookUnended, goes, mapOf, stage, stageBy}
+use Rattle.frames.specs.workings.Held.{Built}
+use Rattle.frames.specs.Held.{Counted, Good, Printed, stageIf}
+use Rattle.frames.specs.Stages.{Areas, Left, TookEnd, TookLine, TookUnended, goes, mapOf, stage, stageBy}
+use Rattle.frames.specs.workings.Judging.{Falls, Halted, Settled}
 use Rattle.frames.specs.Steps.{Stage, Builds, Loads, Runs, Step, line, unended, end, stopped, more, complete, beyond, beyond-unended, cut-off, missing-head, missing-arc, good-end, refusedBy}
 use Rattle.frames.proofs.Fitting.{front, front-back, front-size}
 

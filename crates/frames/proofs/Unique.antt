@@ -2,36 +2,34 @@
 use mathlib.Core.Path.{_≡_, refl, sym, ap, subst, _∙_}
 use mathlib.Core.Logic.{_⊎_, inl, inr}
 use mathlib.Core.List.{List, [], _∷_, _++_}
-use Prim.Native.Nat.{ℕ, _+_, _≤_, _<_}
+use Prim.Native.Nat.{ℕ, _+_}
 use native.Mathlib.Omega.{arith}
 use lib.ListN.{length}
-use Rattle.paths.specs.Least.{Least, Empty}
 use Rattle.paths.proofs.Least.{least-one}
 use Rattle.road.specs.declared.Refusal.{Refusal}
-use Rattle.road.specs.declared.Refusal.the-variants.{Line, Room}
+use Rattle.road.specs.declared.Refusal.the-variants.{Room}
 use Rattle.road.specs.Chains.{coverFaults, roadAndSetFaults, driveFaults}
 use Rattle.road.specs.Counting.{times}
 use Rattle.road.specs.Faults.{nodeFault}
-use Rattle.road.specs.Refusals.{First, None, Singles, Fault}
+use Rattle.road.specs.Refusals.{First, None, Fault}
+use Rattle.road.specs.workings.Verdicts.{Singles}
 use Rattle.road.specs.Roads.{nodesOf, road}
-use Rattle.road.proofs.Refusals.{first-one, first-not-none, of-single, unheld}
+use Rattle.road.proofs.Refusals.{first-one, first-not-none, of-single}
 use Rattle.road.proofs.Verdicts.{cover-singles, road-and-set-singles, drive-singles, singles-both}
 use Rattle.rule.specs.Rule.{PathOf, Pruned}
 use Rattle.rule.proofs.Rules.{prunes-one}
 use Rattle.overlay.specs.Calls.{TooMany}
 use Rattle.overlay.specs.Lent.{overlayFault}
 use Rattle.overlay.specs.Overlays.{OverlayOf}
-use Rattle.overlay.proofs.Outcomes.{set-long}
+use Rattle.road.proofs.Left.{road-and-set-left}
 use Rattle.overlay.proofs.Unique as Unique
 use Rattle.distance.specs.Calls.{pairInput}
-use Rattle.distance.specs.Questions.{AnyPair}
-use Rattle.drive.specs.Thinning.{ThinnedDrive}
 use Rattle.drive.proofs.Unique.{thinned-one}
-use Rattle.hexlines.specs.Outputs.{Out, counts, way, no-way, kept}
-use Rattle.readings.specs.Frames.{Frame, head, arc, question, drive, ReadAs}
+use Rattle.hexlines.specs.Outputs.{Out, counts, way, kept}
+use Rattle.readings.specs.Frames.{Frame}
 use Rattle.readings.proofs.Unique.{read-one}
 use Rattle.maps.specs.Lists.{numbers, startsOf, pointLines, arcLines}
-use Rattle.frames.specs.Steps.{Input, line, unended, end, Map, Stage, asking, stopped, Builds, no-cover, no-overlay, no-room, built, Loads, more, complete, Answers, not-asked, a-way, none, Thins, no-drive, thinned, Due, Does, begins, loads, answers, thins, Step, beyond, beyond-unended, cut-off, wrong, taken, missing-head, missing-arc, good-end, refusedBy, overRoom, driveRoom}
+use Rattle.frames.specs.Steps.{Input, Map, Stage, asking, stopped, Builds, no-cover, no-overlay, no-room, built, Loads, more, complete, Answers, not-asked, a-way, none, Thins, no-drive, thinned, Does, begins, loads, answers, thins, Step, beyond, beyond-unended, cut-off, wrong, taken, missing-head, missing-arc, good-end, refusedBy, overRoom, driveRoom}
 
 -- two states and what was printed before them
 abbrev pub Same : Stage → List Out → Stage → List Out → Type 0
@@ -81,7 +79,7 @@ module _ (ℓ : ℕ) (starts heads weights : List ℕ) (k : ℕ) where
   lays-one c (laid n m o) (bad {r = r} f) = absurd (first-not-none (roadAndSetFaults starts heads weights c) r f n)
   lays-one c (laid n m o) (full i j) = absurd (m j)
   lays-one c (laid {starts′ = s} {heads′ = h} {weights′ = w} n m o) (laid {starts′ = s′} {heads′ = h′} {weights′ = w′} i j p) =
-      let e = set-long (nodesOf starts) c (unheld (n .1 .1 .1 .0)) in
+      let e = road-and-set-left starts heads weights c n .set-right .bytes in
       let x = Unique.starts-one (road starts heads weights) c e s h w s′ h′ w′ o p in
       let y = Unique.heads-one (road starts heads weights) c e s h w s′ h′ w′ o p in
       let z = Unique.weights-one (road starts heads weights) c e s h w s′ h′ w′ o p in

@@ -2,3 +2,4 @@
 pub mod Steps
 pub mod Held
 pub mod Stages
+pub mod workings

@@ -14,16 +14,17 @@ ghost use mathlib.Core.Path.{_≡_};
 ghost use mathlib.Core.Bool.{false};
 ghost use Prim.Native.Nat.{_+_, _*_, _≤_};
 ghost use lib.ListN.{length};
+ghost use Rattle.lent.specs.Slices.{before, after};
 ghost use Rattle.hexlines.specs.Outputs.{textOf};
 ghost use Rattle.hexlines.specs.Writers.{Wrote};
-ghost use Rattle.maps.specs.Calls.{GraphFits};
-ghost use Rattle.frames.specs.Held.{Answered, Thinned};
+ghost use Rattle.maps.specs.workings.Calls.{GraphFits};
+ghost use Rattle.frames.specs.workings.Held.{Answered, Thinned};
 ghost use Rattle.frames.specs.Steps.{refusedBy};
 
 // Prints a refusal.
 pub fn refuse(r: Refusal, line: usize, out: &mut [u8], at: usize) -> Done
     requires { ⌜ at + 9 ≤ length (now out) ⌝ }
-    ensures { λ d. ⌜ (d .good ≡ false) × (Wrote (now (out .entry)) at (textOf (refusedBy r line)) (now (out .exit)) (d .at)) × (d .over ≡ 0) ⌝ }
+    ensures { λ d. ⌜ (d .good ≡ false) × (Wrote (before out) at (textOf (refusedBy r line)) (after out) (d .at)) × (d .over ≡ 0) ⌝ }
 {
     let next = write_refusal(out, at, number(r), line);
     Done {
@@ -50,7 +51,7 @@ pub fn answer_question(
 ) -> Done
     requires { ⌜ GraphFits (now starts) (now heads) ⌝ }
     requires { ⌜ at + 29 ≤ length (now out) ⌝ }
-    ensures { λ d. ⌜ Answered line (record { starts = now (starts .entry); heads = now (heads .entry); weights = now (weights .entry); chosen = now (set .entry); over-starts = now («over_starts» .entry); over-heads = now («over_heads» .entry); over-weights = now («over_weights» .entry) }) a b (d .good) (now (out .entry)) at (now (out .exit)) (d .at) ⌝ }
+    ensures { λ d. ⌜ Answered line (record { starts = before starts; heads = before heads; weights = before weights; chosen = before set; over-starts = before «over_starts»; over-heads = before «over_heads»; over-weights = before «over_weights» }) a b (d .good) (before out) at (after out) (d .at) ⌝ }
 {
     let found = find_distance(
         starts,
@@ -98,7 +99,7 @@ pub fn answer_drive(
 ) -> Done
     requires { ⌜ (length (now nodes) ≤ 64) × (length (now positions) ≡ length (now nodes)) ⌝ }
     requires { ⌜ at + 133 ≤ length (now out) ⌝ }
-    ensures { λ d. ⌜ Thinned line (now (starts .entry)) (now (heads .entry)) (now (weights .entry)) (now (set .entry)) (now (nodes .entry)) (d .good) (now (out .entry)) at (now (out .exit)) (d .at) ⌝ }
+    ensures { λ d. ⌜ Thinned line (before starts) (before heads) (before weights) (before set) (before nodes) (d .good) (before out) at (after out) (d .at) ⌝ }
 {
     let found = thin(starts, heads, weights, set, nodes, positions);
     match found {

@@ -13,11 +13,12 @@ use road::NodeCount;
 ghost use mathlib.Core.List.{_∷_, _++_};
 ghost use Prim.Native.Nat.{suc, _+_, _*_, _≤_};
 ghost use lib.ListN.{length, take};
+ghost use Rattle.lent.specs.Slices.{before, after};
 ghost use Rattle.hexlines.specs.Outputs.{counts, textOf};
 ghost use Rattle.hexlines.specs.Writers.{Wrote};
 ghost use Rattle.maps.specs.Lists.{arcLines, pointLines};
-ghost use Rattle.maps.specs.Printing.{RowsFit};
-ghost use Rattle.frames.specs.Held.{Built, BuildFits, Laid, LayFits};
+ghost use Rattle.maps.specs.workings.Printing.{RowsFit};
+ghost use Rattle.frames.specs.workings.Held.{Built, BuildFits, Laid, LayFits};
 
 // Prints the map.
 fn print_map(
@@ -32,7 +33,7 @@ fn print_map(
 ) -> usize
     requires { ⌜ at + 11 + 7 * length (now set) ≤ length (now out) ⌝ }
     requires { ⌜ RowsFit (now «over_starts») (now «over_heads») (now «over_weights») n (at + 11 + 7 * length (now set)) (length (now out)) ⌝ }
-    ensures { λ r. ⌜ Wrote (now (out .entry)) at (textOf (counts points (length (now («over_heads» .entry))) ∷ pointLines 0 (now (set .entry)) ++ arcLines (now («over_starts» .entry)) (now («over_heads» .entry)) (now («over_weights» .entry)) n)) (now (out .exit)) r ⌝ }
+    ensures { λ r. ⌜ Wrote (before out) at (textOf (counts points (length (before «over_heads»)) ∷ pointLines 0 (before set) ++ arcLines (before «over_starts») (before «over_heads») (before «over_weights») n)) (after out) r ⌝ }
 {
     let first = write_counts(out, at, points, over_heads.len());
     let second = write_points(out, first, set);
@@ -54,7 +55,7 @@ fn lay(
     at: usize,
 ) -> Done
     requires { ⌜ LayFits (now starts) (now heads) (now set) (now «over_starts») (now «over_heads») (now «over_weights») at (now out) ⌝ }
-    ensures { λ d. ⌜ Laid line points (d .good) (record { starts = now (starts .entry); heads = now (heads .entry); weights = now (weights .entry); chosen = now (set .entry); over-starts = now («over_starts» .exit); over-heads = take (d .over) (now («over_heads» .exit)); over-weights = take (d .over) (now («over_weights» .exit)) }) (d .over) (now (out .entry)) at (now (out .exit)) (d .at) ⌝ }
+    ensures { λ d. ⌜ Laid line points (d .good) (record { starts = before starts; heads = before heads; weights = before weights; chosen = before set; over-starts = after «over_starts»; over-heads = take (d .over) (after «over_heads»); over-weights = take (d .over) (after «over_weights») }) (d .over) (before out) at (after out) (d .at) ⌝ }
 {
     let laid = find_overlay(
         starts,
@@ -105,7 +106,7 @@ pub fn build(
     at: usize,
 ) -> Done
     requires { ⌜ BuildFits (now tails) (now heads) (now starts) (now set) (now «over_starts») (now «over_heads») (now «over_weights») at (now out) ⌝ }
-    ensures { λ d. ⌜ Built line (now (tails .entry)) (now (heads .entry)) (now (weights .entry)) (k .0) (length (now (starts .entry))) (d .good) (record { starts = now (starts .exit); heads = now (heads .entry); weights = now (weights .entry); chosen = now (set .exit); over-starts = now («over_starts» .exit); over-heads = take (d .over) (now («over_heads» .exit)); over-weights = take (d .over) (now («over_weights» .exit)) }) (d .over) (now (out .entry)) at (now (out .exit)) (d .at) ⌝ }
+    ensures { λ d. ⌜ Built line (before tails) (before heads) (before weights) (k .0) (length (before starts)) (d .good) (record { starts = after starts; heads = before heads; weights = before weights; chosen = after set; over-starts = after «over_starts»; over-heads = take (d .over) (after «over_heads»); over-weights = take (d .over) (after «over_weights») }) (d .over) (before out) at (after out) (d .at) ⌝ }
 {
     write_starts(tails, starts);
     let covered = find_cover(starts, heads, weights, k, set);

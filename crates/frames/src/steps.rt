@@ -18,11 +18,14 @@ ghost use mathlib.Core.Bool.{true};
 ghost use mathlib.Core.List.{[]};
 ghost use Prim.Native.Nat.{_+_, _≤_, _<_};
 ghost use lib.ListN.{length, take};
+ghost use Rattle.lent.specs.Slices.{before, after};
 ghost use Rattle.maps.specs.Lists.{startsOf};
 ghost use Rattle.readings.specs.declared.Line.the-variants.{Arc};
 ghost use Rattle.frames.specs.declared.Phase.the-variants.{Stopped};
-ghost use Rattle.frames.specs.Held.{Answered, Good, Lengths, Printed, ReadFits, Thinned, mapRoom, stageIf};
-ghost use Rattle.frames.specs.Stages.{Falls, Halted, Judged, Left, Settled, Starts, TookEnd, TookLine, TookUnended, areas, goes, loadingIn, mapOf};
+ghost use Rattle.frames.specs.workings.Held.{Answered, ReadFits, Thinned};
+ghost use Rattle.frames.specs.Held.{Good, Lengths, Printed, mapRoom, stageIf};
+ghost use Rattle.frames.specs.workings.Judging.{Falls, Halted, Judged, Settled};
+ghost use Rattle.frames.specs.Stages.{areasAt, mapAt, Left, Starts, TookEnd, TookLine, TookUnended, areas, goes, loadingIn};
 ghost use Rattle.frames.specs.Steps.{Builds, Loads, begun, asking};
 
 // The state before the first line.
@@ -44,7 +47,7 @@ pub fn first() -> State
 fn stop(line: usize, out: &mut [u8], at: usize) -> Taken
     requires { ⌜ at + 9 ≤ length (now out) ⌝ }
     requires { ⌜ line ≤ 65535 ⌝ }
-    ensures { λ r. ⌜ Halted line (r .state) (now (out .entry)) at (now (out .exit)) (r .at) ⌝ }
+    ensures { λ r. ⌜ Halted line (r .state) (before out) at (after out) (r .at) ⌝ }
 {
     let done = refuse(Refusal::Line, line, out, at);
     let next = done.at;
@@ -118,7 +121,7 @@ fn complete(
     requires { ⌜ Lengths (now tails) (now heads) (now weights) (now starts) (now set) (now «over_starts») (now «over_heads») (now «over_weights») ⌝ }
     requires { ⌜ at + mapRoom ≤ length (now out) ⌝ }
     requires { ⌜ line ≤ 65535 ⌝ }
-    ensures { λ r. ⌜ Left (Builds line (startsOf (n .0) (take (m .0) (now (tails .entry)))) (take (m .0) (now (heads .entry))) (take (m .0) (now (weights .entry))) (k .0)) line (r .state) (areas (now (tails .entry)) (now (heads .entry)) (now (weights .entry)) (now (starts .exit)) (now (set .exit)) (now («over_starts» .exit)) (now («over_heads» .exit)) (now («over_weights» .exit))) (now (out .entry)) at (now (out .exit)) (r .at) ⌝ }
+    ensures { λ r. ⌜ Left (Builds line (startsOf (n .0) (take (m .0) (before tails))) (take (m .0) (before heads)) (take (m .0) (before weights)) (k .0)) line (r .state) (areas (before tails) (before heads) (before weights) (after starts) (after set) (after «over_starts») (after «over_heads») (after «over_weights»)) (before out) at (after out) (r .at) ⌝ }
 {
     let nodes = n.0;
     let arcs = m.0;
@@ -167,7 +170,7 @@ fn take_head(
     requires { ⌜ Lengths (now tails) (now heads) (now weights) (now starts) (now set) (now «over_starts») (now «over_heads») (now «over_weights») ⌝ }
     requires { ⌜ at + mapRoom ≤ length (now out) ⌝ }
     requires { ⌜ line ≡ 1 ⌝ }
-    ensures { λ r. ⌜ Left (Loads line (n .0) (m .0) (k .0) [] [] []) line (r .state) (areas (now (tails .entry)) (now (heads .entry)) (now (weights .entry)) (now (starts .exit)) (now (set .exit)) (now («over_starts» .exit)) (now («over_heads» .exit)) (now («over_weights» .exit))) (now (out .entry)) at (now (out .exit)) (r .at) ⌝ }
+    ensures { λ r. ⌜ Left (Loads line (n .0) (m .0) (k .0) [] [] []) line (r .state) (areas (before tails) (before heads) (before weights) (after starts) (after set) (after «over_starts») (after «over_heads») (after «over_weights»)) (before out) at (after out) (r .at) ⌝ }
 {
     if 0 < m.0 {
         return Taken {
@@ -204,7 +207,7 @@ fn take_head(
 // Whether the tail is at or above n, or below the former.
 fn falls(n: NodeCount, tails: &[u32], count: usize, tail: u32) -> bool
     requires { ⌜ count ≤ length (now tails) ⌝ }
-    ensures { λ r. ⌜ Falls r (n .0) tail (take count (now (tails .entry))) ⌝ }
+    ensures { λ r. ⌜ Falls r (n .0) tail (take count (before tails)) ⌝ }
 {
     if n.0 <= wide(tail) {
         return true;
@@ -241,7 +244,7 @@ fn take_arc(
     requires { ⌜ at + mapRoom ≤ length (now out) ⌝ }
     requires { ⌜ line ≤ 65535 ⌝ }
     requires { ⌜ line ≡ s .count .0 + 2 ⌝ }
-    ensures { λ r. ⌜ Left (Judged line (loadingIn s (areas (now (tails .entry)) (now (heads .entry)) (now (weights .entry)) (now (starts .entry)) (now (set .entry)) (now («over_starts» .entry)) (now («over_heads» .entry)) (now («over_weights» .entry)))) (Arc tail head weight) []) line (r .state) (areas (now (tails .exit)) (now (heads .exit)) (now (weights .exit)) (now (starts .exit)) (now (set .exit)) (now («over_starts» .exit)) (now («over_heads» .exit)) (now («over_weights» .exit))) (now (out .entry)) at (now (out .exit)) (r .at) ⌝ }
+    ensures { λ r. ⌜ Left (Judged line (loadingIn s (areasAt before tails heads weights starts set «over_starts» «over_heads» «over_weights»)) (Arc tail head weight) []) line (r .state) (areasAt after tails heads weights starts set «over_starts» «over_heads» «over_weights») (before out) at (after out) (r .at) ⌝ }
 {
     let n = s.n;
     let m = s.m;
@@ -304,7 +307,7 @@ fn take_question(
     requires { ⌜ (s .n .0 ≤ 512) × (s .m .0 ≤ 2048) × (s .over .0 ≤ 4096) ⌝ }
     requires { ⌜ Lengths (now heads) (now heads) (now weights) (now starts) (now set) (now «over_starts») (now «over_heads») (now «over_weights») ⌝ }
     requires { ⌜ at + mapRoom ≤ length (now out) ⌝ }
-    ensures { λ d. ⌜ Answered line (mapOf (s .n .0) (s .m .0) (s .over .0) (now (starts .entry)) (now (heads .entry)) (now (weights .entry)) (now (set .entry)) (now («over_starts» .entry)) (now («over_heads» .entry)) (now («over_weights» .entry))) a b (d .good) (now (out .entry)) at (now (out .exit)) (d .at) ⌝ }
+    ensures { λ d. ⌜ Answered line (mapAt before (s .n .0) (s .m .0) (s .over .0) starts heads weights set «over_starts» «over_heads» «over_weights») a b (d .good) (before out) at (after out) (d .at) ⌝ }
 {
     let n = s.n.0;
     let m = s.m.0;
@@ -343,7 +346,7 @@ fn take_drive(
     requires { ⌜ (length (now nodes) ≡ 64) × (count ≤ 64) ⌝ }
     requires { ⌜ (length (now heads) ≡ 2048) × (length (now weights) ≡ 2048) × (length (now starts) ≡ 513) × (length (now set) ≡ 512) ⌝ }
     requires { ⌜ at + mapRoom ≤ length (now out) ⌝ }
-    ensures { λ d. ⌜ Thinned line (take (s .n .0 + 1) (now (starts .entry))) (take (s .m .0) (now (heads .entry))) (take (s .m .0) (now (weights .entry))) (take (s .n .0) (now (set .entry))) (take count (now (nodes .entry))) (d .good) (now (out .entry)) at (now (out .exit)) (d .at) ⌝ }
+    ensures { λ d. ⌜ Thinned line (take (s .n .0 + 1) (before starts)) (take (s .m .0) (before heads)) (take (s .m .0) (before weights)) (take (s .n .0) (before set)) (take count (before nodes)) (d .good) (before out) at (after out) (d .at) ⌝ }
 {
     let n = s.n.0;
     let m = s.m.0;
@@ -382,7 +385,7 @@ fn begin(
     requires { ⌜ ReadFits read ⌝ }
     requires { ⌜ Lengths (now tails) (now heads) (now weights) (now starts) (now set) (now «over_starts») (now «over_heads») (now «over_weights») ⌝ }
     requires { ⌜ at + mapRoom ≤ length (now out) ⌝ }
-    ensures { λ r. ⌜ Left (Judged line begun read (now (nodes .entry))) line (r .state) (areas (now (tails .entry)) (now (heads .entry)) (now (weights .entry)) (now (starts .exit)) (now (set .exit)) (now («over_starts» .exit)) (now («over_heads» .exit)) (now («over_weights» .exit))) (now (out .entry)) at (now (out .exit)) (r .at) ⌝ }
+    ensures { λ r. ⌜ Left (Judged line begun read (before nodes)) line (r .state) (areas (before tails) (before heads) (before weights) (after starts) (after set) (after «over_starts») (after «over_heads») (after «over_weights»)) (before out) at (after out) (r .at) ⌝ }
 {
     let Line::Head(n, m, k) = read else {
         return stop(line, out, at);
@@ -427,7 +430,7 @@ fn load(
     requires { ⌜ (s .n .0 ≤ 512) × (s .m .0 ≤ 2048) × (s .count .0 < s .m .0) ⌝ }
     requires { ⌜ Lengths (now tails) (now heads) (now weights) (now starts) (now set) (now «over_starts») (now «over_heads») (now «over_weights») ⌝ }
     requires { ⌜ at + mapRoom ≤ length (now out) ⌝ }
-    ensures { λ r. ⌜ Left (Judged line (loadingIn s (areas (now (tails .entry)) (now (heads .entry)) (now (weights .entry)) (now (starts .entry)) (now (set .entry)) (now («over_starts» .entry)) (now («over_heads» .entry)) (now («over_weights» .entry)))) read (now (nodes .entry))) line (r .state) (areas (now (tails .exit)) (now (heads .exit)) (now (weights .exit)) (now (starts .exit)) (now (set .exit)) (now («over_starts» .exit)) (now («over_heads» .exit)) (now («over_weights» .exit))) (now (out .entry)) at (now (out .exit)) (r .at) ⌝ }
+    ensures { λ r. ⌜ Left (Judged line (loadingIn s (areasAt before tails heads weights starts set «over_starts» «over_heads» «over_weights»)) read (before nodes)) line (r .state) (areasAt after tails heads weights starts set «over_starts» «over_heads» «over_weights») (before out) at (after out) (r .at) ⌝ }
 {
     let Line::Arc(tail, head, weight) = read else {
         return stop(line, out, at);
@@ -472,7 +475,7 @@ fn ask(
     requires { ⌜ (s .n .0 ≤ 512) × (s .m .0 ≤ 2048) × (s .over .0 ≤ 4096) ⌝ }
     requires { ⌜ Lengths (now heads) (now heads) (now weights) (now starts) (now set) (now «over_starts») (now «over_heads») (now «over_weights») ⌝ }
     requires { ⌜ at + mapRoom ≤ length (now out) ⌝ }
-    ensures { λ d. ⌜ Printed (Judged line (asking (mapOf (s .n .0) (s .m .0) (s .over .0) (now (starts .entry)) (now (heads .entry)) (now (weights .entry)) (now (set .entry)) (now («over_starts» .entry)) (now («over_heads» .entry)) (now («over_weights» .entry)))) read (now (nodes .entry))) (stageIf (d .good) (mapOf (s .n .0) (s .m .0) (s .over .0) (now (starts .entry)) (now (heads .entry)) (now (weights .entry)) (now (set .entry)) (now («over_starts» .entry)) (now («over_heads» .entry)) (now («over_weights» .entry)))) (now (out .entry)) at (now (out .exit)) (d .at) ⌝ }
+    ensures { λ d. ⌜ Printed (Judged line (asking (mapAt before (s .n .0) (s .m .0) (s .over .0) starts heads weights set «over_starts» «over_heads» «over_weights»)) read (before nodes)) (stageIf (d .good) (mapAt before (s .n .0) (s .m .0) (s .over .0) starts heads weights set «over_starts» «over_heads» «over_weights»)) (before out) at (after out) (d .at) ⌝ }
 {
     if let Line::Question(a, b) = read {
         return take_question(
@@ -516,7 +519,7 @@ pub fn take_line(
     requires { ⌜ Good s ⌝ }
     requires { ⌜ Lengths (now tails) (now heads) (now weights) (now starts) (now set) (now «over_starts») (now «over_heads») (now «over_weights») ⌝ }
     requires { ⌜ at + mapRoom ≤ length (now out) ⌝ }
-    ensures { λ r. ⌜ TookLine s (areas (now (tails .entry)) (now (heads .entry)) (now (weights .entry)) (now (starts .entry)) (now (set .entry)) (now («over_starts» .entry)) (now («over_heads» .entry)) (now («over_weights» .entry))) (now (bytes .entry)) (r .state) (areas (now (tails .exit)) (now (heads .exit)) (now (weights .exit)) (now (starts .exit)) (now (set .exit)) (now («over_starts» .exit)) (now («over_heads» .exit)) (now («over_weights» .exit))) (now (out .entry)) at (now (out .exit)) (r .at) ⌝ }
+    ensures { λ r. ⌜ TookLine s (areasAt before tails heads weights starts set «over_starts» «over_heads» «over_weights») (before bytes) (r .state) (areasAt after tails heads weights starts set «over_starts» «over_heads» «over_weights») (before out) at (after out) (r .at) ⌝ }
 {
     let line = s.lines + 1;
     if 65535 < line {
@@ -589,7 +592,7 @@ pub fn take_unended(s: State, out: &mut [u8], at: usize) -> Taken
     requires { ⌜ goes (s .phase) ≡ true ⌝ }
     requires { ⌜ Good s ⌝ }
     requires { ⌜ at + 9 ≤ length (now out) ⌝ }
-    ensures { λ r. ⌜ TookUnended s (r .state) (now (out .entry)) at (now (out .exit)) (r .at) ⌝ }
+    ensures { λ r. ⌜ TookUnended s (r .state) (before out) at (after out) (r .at) ⌝ }
 {
     let lines = s.lines;
     let line = lines + 1;
@@ -604,7 +607,7 @@ pub fn take_end(s: State, out: &mut [u8], at: usize) -> Taken
     requires { ⌜ goes (s .phase) ≡ true ⌝ }
     requires { ⌜ Good s ⌝ }
     requires { ⌜ at + 9 ≤ length (now out) ⌝ }
-    ensures { λ r. ⌜ TookEnd s (r .state) (now (out .entry)) at (now (out .exit)) (r .at) ⌝ }
+    ensures { λ r. ⌜ TookEnd s (r .state) (before out) at (after out) (r .at) ⌝ }
 {
     let phase = s.phase;
     let lines = s.lines;

@@ -3,7 +3,8 @@ use crate::GulvaneDistance;
 use crate::results::of_distance;
 use distance::any_pair;
 use distance::handheld;
-ghost use Rattle.distance.specs.Calls.{HandOutcome, PairOutcome};
+ghost use Rattle.lent.specs.Slices.{before, after};
+ghost use Rattle.distance.specs.Calls.{pairAreas, handAreas, HandOutcome, PairOutcome};
 ghost use Rattle.gulvane.specs.Results.{BareDistance, saidDistance};
 
 // The handheld question.
@@ -21,7 +22,7 @@ pub extern "C" fn gulvane_handheld(
     touched: &mut [u32],
     blocked: &mut [u8],
 ) -> GulvaneDistance
-    ensures { λ r. ⌜ HandOutcome (now (set .entry)) (now («over_starts» .entry)) (now («over_heads» .entry)) (now («over_weights» .entry)) s t (record { labels = now (labels .entry); heap = now (heap .entry); places = now (places .entry); touched = now (touched .entry); blocked = now (blocked .entry) }) (saidDistance r) (record { labels = now (labels .exit); heap = now (heap .exit); places = now (places .exit); touched = now (touched .exit); blocked = now (blocked .exit) }) ⌝ }
+    ensures { λ r. ⌜ HandOutcome (before set) (before «over_starts») (before «over_heads») (before «over_weights») s t (handAreas before labels heap places touched blocked) (saidDistance r) (handAreas after labels heap places touched blocked) ⌝ }
     ensures { λ r. ⌜ BareDistance r ⌝ }
 {
     of_distance(handheld(
@@ -62,7 +63,7 @@ pub extern "C" fn gulvane_any_pair(
     touched: &mut [u32],
     blocked: &mut [u8],
 ) -> GulvaneDistance
-    ensures { λ r. ⌜ PairOutcome (now (starts .entry)) (now (heads .entry)) (now (weights .entry)) (now (set .entry)) (now («over_starts» .entry)) (now («over_heads» .entry)) (now («over_weights» .entry)) s t (record { starts = now («starts_back» .entry); heads = now («heads_back» .entry); weights = now («weights_back» .entry); outward = now (outward .entry); inward = now (inward .entry); labels = now (labels .entry); heap = now (heap .entry); places = now (places .entry); touched = now (touched .entry); blocked = now (blocked .entry) }) (saidDistance r) (record { starts = now («starts_back» .exit); heads = now («heads_back» .exit); weights = now («weights_back» .exit); outward = now (outward .exit); inward = now (inward .exit); labels = now (labels .exit); heap = now (heap .exit); places = now (places .exit); touched = now (touched .exit); blocked = now (blocked .exit) }) ⌝ }
+    ensures { λ r. ⌜ PairOutcome (before starts) (before heads) (before weights) (before set) (before «over_starts») (before «over_heads») (before «over_weights») s t (pairAreas before «starts_back» «heads_back» «weights_back» outward inward labels heap places touched blocked) (saidDistance r) (pairAreas after «starts_back» «heads_back» «weights_back» outward inward labels heap places touched blocked) ⌝ }
     ensures { λ r. ⌜ BareDistance r ⌝ }
 {
     of_distance(any_pair(

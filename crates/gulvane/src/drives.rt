@@ -2,6 +2,7 @@
 use crate::GulvaneCount;
 use crate::results::of_thin;
 use drive::thin;
+ghost use Rattle.lent.specs.Slices.{before, after};
 ghost use Rattle.drive.specs.Calls.{Outcome};
 ghost use Rattle.gulvane.specs.Results.{BareCount, saidCount};
 
@@ -15,7 +16,7 @@ pub extern "C" fn gulvane_thin(
     drive: &[u32],
     positions: &mut [u32],
 ) -> GulvaneCount
-    ensures { λ r. ⌜ Outcome (now (starts .entry)) (now (heads .entry)) (now (weights .entry)) (now (set .entry)) (now (drive .entry)) (now (positions .entry)) (saidCount r) (now (positions .exit)) ⌝ }
+    ensures { λ r. ⌜ Outcome (before starts) (before heads) (before weights) (before set) (before drive) (before positions) (saidCount r) (after positions) ⌝ }
     ensures { λ r. ⌜ BareCount r ⌝ }
 {
     of_thin(thin(starts, heads, weights, set, drive, positions))

@@ -2,7 +2,8 @@
 use crate::GulvaneCount;
 use crate::results::of_overlay;
 use overlay::overlay;
-ghost use Rattle.overlay.specs.Calls.{Outcome};
+ghost use Rattle.lent.specs.Slices.{before, after};
+ghost use Rattle.overlay.specs.Calls.{areas, Outcome};
 ghost use Rattle.gulvane.specs.Results.{BareCount, saidCount};
 
 // Builds the overlay of the set.
@@ -20,7 +21,7 @@ pub extern "C" fn gulvane_overlay(
     places: &mut [u32],
     touched: &mut [u32],
 ) -> GulvaneCount
-    ensures { λ r. ⌜ Outcome (now (starts .entry)) (now (heads .entry)) (now (weights .entry)) (now (set .entry)) (record { starts = now («over_starts» .entry); heads = now («over_heads» .entry); weights = now («over_weights» .entry); labels = now (labels .entry); heap = now (heap .entry); places = now (places .entry); touched = now (touched .entry) }) (saidCount r) (record { starts = now («over_starts» .exit); heads = now («over_heads» .exit); weights = now («over_weights» .exit); labels = now (labels .exit); heap = now (heap .exit); places = now (places .exit); touched = now (touched .exit) }) ⌝ }
+    ensures { λ r. ⌜ Outcome (before starts) (before heads) (before weights) (before set) (areas before «over_starts» «over_heads» «over_weights» labels heap places touched) (saidCount r) (areas after «over_starts» «over_heads» «over_weights» labels heap places touched) ⌝ }
     ensures { λ r. ⌜ BareCount r ⌝ }
 {
     of_overlay(overlay(

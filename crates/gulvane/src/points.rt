@@ -3,7 +3,8 @@ use crate::GulvaneCount;
 use crate::results::of_cover;
 use cover::cover;
 use road::NodeCount;
-ghost use Rattle.cover.specs.Calls.{Outcome};
+ghost use Rattle.lent.specs.Slices.{before, after};
+ghost use Rattle.cover.specs.Calls.{areas, Outcome};
 ghost use Rattle.gulvane.specs.Results.{BareCount, saidCount};
 
 // Picks the points.
@@ -22,7 +23,7 @@ pub extern "C" fn gulvane_cover(
     pieces: &mut [u32],
     sizes: &mut [u32],
 ) -> GulvaneCount
-    ensures { λ r. ⌜ Outcome (now (starts .entry)) (now (heads .entry)) (now (weights .entry)) k (now (order .entry)) (record { cover = now (points .entry); starts = now («starts_back» .entry); heads = now («heads_back» .entry); weights = now («weights_back» .entry); marks = now (marks .entry); pieces = now (pieces .entry); sizes = now (sizes .entry) }) (saidCount r) (record { cover = now (points .exit); starts = now («starts_back» .exit); heads = now («heads_back» .exit); weights = now («weights_back» .exit); marks = now (marks .exit); pieces = now (pieces .exit); sizes = now (sizes .exit) }) ⌝ }
+    ensures { λ r. ⌜ Outcome (before starts) (before heads) (before weights) k (before order) (areas before points «starts_back» «heads_back» «weights_back» marks pieces sizes) (saidCount r) (areas after points «starts_back» «heads_back» «weights_back» marks pieces sizes) ⌝ }
     ensures { λ r. ⌜ BareCount r ⌝ }
 {
     of_cover(cover(

@@ -11,9 +11,10 @@ ghost use mathlib.Core.Path.{_≡_};
 ghost use mathlib.Core.Bool.{true};
 ghost use Prim.Native.Nat.{_+_, _≤_};
 ghost use lib.ListN.{length};
+ghost use Rattle.lent.specs.Slices.{before};
 ghost use Rattle.frames.specs.Held.{Good, Lengths, mapRoom};
 ghost use Rattle.frames.specs.Stages.{goes};
-ghost use Rattle.gulvane_frames.specs.Runs.{Cut, Fine};
+ghost use Rattle.gulvane_frames.specs.workings.Runs.{Cut, Fine};
 
 // Where the program is: the state, how much of the chunk is used and filled, how much of the line
 // is kept, and how much of the output waits.
@@ -130,7 +131,7 @@ fn hand(
     requires { ⌜ goes (s .phase) ≡ true ⌝ }
     requires { ⌜ Good s ⌝ }
     requires { ⌜ Lengths (now tails) (now heads) (now weights) (now starts) (now set) (now «over_starts») (now «over_heads») (now «over_weights») ⌝ }
-    ensures { λ r. ⌜ (Good (r .state)) × (r .at ≤ length (now (out .entry))) ⌝ }
+    ensures { λ r. ⌜ (Good (r .state)) × (r .at ≤ length (before out)) ⌝ }
 {
     take_line(
         s,

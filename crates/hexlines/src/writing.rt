@@ -5,6 +5,7 @@ use crate::digits::put_digits;
 ghost use mathlib.Core.Path.{_≡_};
 ghost use Prim.Native.Nat.{_+_, _<_, _/_, _%_};
 ghost use lib.ListN.{length, set};
+ghost use Rattle.lent.specs.Slices.{before, after};
 ghost use Rattle.hexlines.specs.Text.{digit};
 ghost use Rattle.hexlines.specs.Writers.{grown};
 
@@ -38,7 +39,7 @@ pub fn put_byte<'a>(w: Writer<'a>, b: u8) -> Writer<'a>
 // From a slice to a writer and back.
 pub fn write_byte(buf: &mut [u8], at: usize, b: u8) -> usize
     requires { ⌜ at + 1 < length (now buf) ⌝ }
-    ensures { λ r. ⌜ (r ≡ at + 2) × (now (buf .exit) ≡ set (set (now (buf .entry)) at (digit (b / 16))) (at + 1) (digit (b % 16))) ⌝ }
+    ensures { λ r. ⌜ (r ≡ at + 2) × (after buf ≡ set (set (before buf) at (digit (b / 16))) (at + 1) (digit (b % 16))) ⌝ }
 {
     let w = put_byte(new(buf, at), b);
     place(w)

@@ -1,8 +1,8 @@
 -- From a call's outcome, with work of the lengths that it asks, to what is found.
-use mathlib.Core.Path.{_≡_, refl, sym, ap, subst, _∙_}
-use mathlib.Core.Logic.{_⊎_, inl, inr}
+use mathlib.Core.Path.{_≡_, refl, ap, subst, _∙_}
+use mathlib.Core.Logic.{inl, inr}
 use mathlib.Core.List.{List, [], _∷_, _++_}
-use Prim.Native.Nat.{ℕ, zero, suc, _+_, _-_, _*_, _≤_, _<_}
+use Prim.Native.Nat.{ℕ, zero, suc, _+_, _-_, _≤_}
 use native.Mathlib.Omega.{arith}
 use borrow.Rule.Slice.PartMut.{midOf}
 use lib.ListN.{length, take, replicate, length-replicate}
@@ -10,12 +10,12 @@ use lib.Seq.{length-take-le}
 use Rattle.road.specs.declared.Refusal.{Refusal}
 use Rattle.road.specs.Faults.{Unlike, lengthsFault}
 use Rattle.road.specs.Chains.{coverFaults, roadAndSetFaults}
-use Rattle.road.specs.Refusals.{Fault, First, None, Of, Said}
+use Rattle.road.specs.Refusals.{Fault, First, None, Said}
 use Rattle.road.specs.Roads.{nodesOf}
 use Rattle.cover.specs.Calls as C
 use Rattle.overlay.specs.Calls as O
 use Rattle.distance.specs.Calls as D
-use Rattle.maps.specs.Calls.{CoverFound, OverlayFound, PairFound}
+use Rattle.maps.specs.workings.Calls.{CoverFound, OverlayFound, PairFound}
 use Rattle.maps.specs.Lists.{numbers}
 
 pub first-of : (Fs : List Fault) (G : Fault) (r : Refusal) → ((s : Refusal) → G s → ⊥) → First (Fs ++ (G ∷ [])) r → First Fs r

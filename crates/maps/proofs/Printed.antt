@@ -12,7 +12,7 @@ use Rattle.hexlines.proofs.Growing.{wrote-none, wrote-then, wrote-long}
 use Rattle.hexlines.specs.Outputs.{Out, arc, point, outText, textOf}
 use Rattle.hexlines.specs.Writers.{Wrote}
 use Rattle.maps.specs.Lists.{arcLines, pointIf, pointLines, rowLines}
-use Rattle.maps.specs.Printing.{RowsFit}
+use Rattle.maps.specs.workings.Printing.{RowsFit}
 
 pub text-append : (a b : List Out) → textOf (a ++ b) ≡ textOf a ++ textOf b
 text-append [] b = refl

@@ -1,4 +1,3 @@
 -- A map: the graph that the arcs read make, its cover, its overlay, and its lines.
 pub mod Lists
-pub mod Calls
-pub mod Printing
+pub mod workings

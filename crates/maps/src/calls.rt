@@ -7,10 +7,11 @@ use distance::any_pair;
 use overlay::OverlayAnswer;
 use overlay::overlay;
 use road::NodeCount;
+ghost use Rattle.lent.specs.Slices.{before, after};
 ghost use Rattle.cover.specs.Calls.{saidOf as coverSaid};
 ghost use Rattle.overlay.specs.Calls.{saidOf as overlaySaid};
 ghost use Rattle.distance.specs.Calls.{saidOf as distanceSaid};
-ghost use Rattle.maps.specs.Calls.{CoverFits, CoverFound, OverlayFits, OverlayFound, PairFits, PairFound};
+ghost use Rattle.maps.specs.workings.Calls.{CoverFits, CoverFound, OverlayFits, OverlayFound, PairFits, PairFound};
 
 // The cover, the nodes being taken in ascending order.
 pub fn find_cover(
@@ -21,7 +22,7 @@ pub fn find_cover(
     set: &mut [u8],
 ) -> CoverAnswer
     requires { ⌜ CoverFits (now starts) (now heads) (now set) ⌝ }
-    ensures { λ r. ⌜ CoverFound (now (starts .entry)) (now (heads .entry)) (now (weights .entry)) (k .0) (now (set .entry)) (coverSaid r) (now (set .exit)) ⌝ }
+    ensures { λ r. ⌜ CoverFound (before starts) (before heads) (before weights) (k .0) (before set) (coverSaid r) (after set) ⌝ }
 {
     let n = starts.len() - 1;
     let e = n + 1;
@@ -61,7 +62,7 @@ pub fn find_overlay(
     over_weights: &mut [u32],
 ) -> OverlayAnswer
     requires { ⌜ OverlayFits (now starts) (now heads) (now «over_starts») (now «over_heads») (now «over_weights») ⌝ }
-    ensures { λ r. ⌜ OverlayFound (now (starts .entry)) (now (heads .entry)) (now (weights .entry)) (now (set .entry)) (now («over_starts» .entry)) (now («over_heads» .entry)) (now («over_weights» .entry)) (overlaySaid r) (now («over_starts» .exit)) (now («over_heads» .exit)) (now («over_weights» .exit)) ⌝ }
+    ensures { λ r. ⌜ OverlayFound (before starts) (before heads) (before weights) (before set) (before «over_starts») (before «over_heads») (before «over_weights») (overlaySaid r) (after «over_starts») (after «over_heads») (after «over_weights») ⌝ }
 {
     let n = starts.len() - 1;
     let twice = 2 * n;
@@ -97,7 +98,7 @@ pub fn find_distance(
     t: u32,
 ) -> DistanceAnswer
     requires { ⌜ PairFits (now starts) (now heads) ⌝ }
-    ensures { λ r. ⌜ PairFound (now (starts .entry)) (now (heads .entry)) (now (weights .entry)) (now (set .entry)) (now («over_starts» .entry)) (now («over_heads» .entry)) (now («over_weights» .entry)) s t (distanceSaid r) ⌝ }
+    ensures { λ r. ⌜ PairFound (before starts) (before heads) (before weights) (before set) (before «over_starts») (before «over_heads») (before «over_weights») s t (distanceSaid r) ⌝ }
 {
     let n = starts.len() - 1;
     let e = n + 1;

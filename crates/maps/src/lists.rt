@@ -4,13 +4,14 @@ ghost use mathlib.Core.Path.{_≡_};
 ghost use Prim.Native.Nat.{suc, _≤_, _<_};
 ghost use lib.ListN.{length};
 ghost use lib.Dec.{ltb};
+ghost use Rattle.lent.specs.Slices.{before, after};
 ghost use Rattle.road.specs.Counting.{bit, under};
 ghost use Rattle.maps.specs.Lists.{belows, numbers};
 
 // Fills the slice with 0, 1, 2 and so on.
 pub fn count_up(s: &mut [u32])
     requires { ⌜ length (now s) ≤ 4096 ⌝ }
-    ensures { λ _. ⌜ now (s .exit) ≡ numbers 0 (length (now (s .entry))) ⌝ }
+    ensures { λ _. ⌜ after s ≡ numbers 0 (length (before s)) ⌝ }
 {
     let mut i = 0;
     while i < s.len() {
@@ -32,7 +33,7 @@ fn below(x: usize, v: usize) -> u32
 // How many of the tails are below v.
 fn count_below(tails: &[u32], v: usize) -> u32
     requires { ⌜ length (now tails) ≤ 4096 ⌝ }
-    ensures { λ r. ⌜ r ≡ under v (now (tails .entry)) ⌝ }
+    ensures { λ r. ⌜ r ≡ under v (before tails) ⌝ }
 {
     let mut count = 0;
     let mut i = 0;
@@ -46,7 +47,7 @@ fn count_below(tails: &[u32], v: usize) -> u32
 // The starts of arcs with these tails.
 pub fn write_starts(tails: &[u32], starts: &mut [u32])
     requires { ⌜ length (now tails) ≤ 4096 ⌝ }
-    ensures { λ _. ⌜ now (starts .exit) ≡ belows (now (tails .entry)) 0 (length (now (starts .entry))) ⌝ }
+    ensures { λ _. ⌜ after starts ≡ belows (before tails) 0 (length (before starts)) ⌝ }
 {
     let mut v = 0;
     while v < starts.len() {

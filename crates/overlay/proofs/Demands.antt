@@ -1,28 +1,34 @@
 -- What the overlay call promises, of every outcome that its contract allows.
-use mathlib.Core.Path.{_≡_, refl, sym, ap, subst, subst₂, _∙_}
-use mathlib.Core.Logic.{_⊎_, inl, inr, _≢_}
+use mathlib.Core.Path.{_≡_, refl, sym, ap, subst₂, _∙_}
+use mathlib.Core.Logic.{_⊎_, inl, inr, ⊎-elim, _≢_}
 use mathlib.Core.List.{List, [], _∷_, _++_}
-use Prim.Native.Nat.{ℕ, suc, _+_, _*_, _≤_, _<_}
+use Prim.Native.Nat.{ℕ, suc, _+_, _≤_, _<_}
 use native.Mathlib.Omega.{arith}
-use lib.ListN.{length, getD, take, drop, replicate}
+use lib.ListN.{length, getD, take, drop}
 use lib.Seq.{take-append-seam}
-use Rattle.paths.specs.Graphs.{Graph}
 use Rattle.road.specs.declared.Refusal.{Refusal}
 use Rattle.road.specs.declared.Refusal.the-variants.{Room}
 use Rattle.road.specs.Chains.{roadAndSetFaults}
-use Rattle.road.specs.Faults.{InSet, setFault, graphFaults, lengthsFault}
+use Rattle.road.specs.Faults.{graphFaults, lengthsFault}
 use Rattle.road.specs.Limits.{roadLimits, overlayLimits}
-use Rattle.road.specs.Refusals.{numberOf, Fault, Singles, First, None, Said, refusal, answer}
-use Rattle.road.specs.Roads.{nodesOf, Owns, Arc, road, Sound}
-use Rattle.road.proofs.Faults.{none-of-sound, not-over}
-use Rattle.road.proofs.Refusals.{of-single, first-one, first-not-none, none-front, number-some, unheld, told}
+use Rattle.road.specs.Order.{Numbered, HoldsAt, NoneTo}
+use Rattle.road.specs.Refusals.{First, None, Said, refusal, answer}
+use Rattle.road.specs.workings.Verdicts.{Singles}
+use Rattle.road.specs.Roads.{nodesOf, Owns, Arc, road}
+use Rattle.road.specs.workings.Sound.{Sound}
+use Rattle.road.proofs.Faults.{graph-numbered, none-of-sound, not-over}
+use Rattle.road.specs.workings.Left.{RoadAndSetLeft}
+use Rattle.road.proofs.Left.{road-and-set-left}
+use Rattle.road.proofs.Refusals.{of-single, of-number, first-one, first-at, first-early, first-late, first-split, first-not-none, none-front, number-some, refusal-one, refusal-no-answer, told}
 use Rattle.road.proofs.Rows.{owner-node, owner-of}
 use Rattle.road.proofs.Verdicts.{singles-both, road-and-set-singles}
-use Rattle.overlay.specs.Calls.{Areas, Outcome, refused, full, built, TooMany, roomFault, answered, cleared, askedLengths, faultsOf}
+use Rattle.overlay.specs.declared.OverlayAnswer.{OverlayAnswer}
+use Rattle.overlay.specs.declared.OverlayAnswer.the-variants.{Built, Refused}
+use Rattle.overlay.specs.Calls.{Areas, Outcome, refused, full, built, allFaults, roomFault, answered, askedLengths, faultsOf, saidOf}
 use Rattle.overlay.specs.Lent.{BadOverlay}
 use Rattle.overlay.specs.Overlays.{OverlayArc, OverlayOf, ArcsInAll}
 use Rattle.overlay.proofs.Locals.{in-bytes}
-use Rattle.overlay.proofs.Outcomes.{set-long, set-bits, input-sound, road-light}
+use Rattle.overlay.proofs.Outcomes.{road-light}
 use Rattle.overlay.proofs.Unique as Unique
 
 -- an overlay of a road graph is well formed under the overlay's limits
@@ -73,17 +79,27 @@ pub record Answer (starts heads weights chosen : List ℕ) (before : Areas) (sai
   pub overlay : OverlayOf (road starts heads weights) chosen (after .starts) (take count (after .heads)) (take count (after .weights))
   pub counted : ArcsInAll (road starts heads weights) chosen count
 
-module _ (starts heads weights chosen : List ℕ) (before : Areas) where
-  input-none : None (faultsOf starts heads weights chosen before) → None (roadAndSetFaults starts heads weights chosen)
-  input-none n = none-front (roadAndSetFaults starts heads weights chosen) (lengthsFault (askedLengths (nodesOf starts) before) ∷ []) n
+-- what is said loses nothing of the answer
+pub said-one : (a b : OverlayAnswer) → saidOf a ≡ saidOf b → a ≡ b
+said-one (Built c) (Built d) e = ap (λ (n : ℕ). Built (record { 0 = n })) (ap (λ (x : Said). getD (x .values) 0 0) e)
+said-one (Built c) (Refused r) e = absurd (refusal-no-answer r (c .0 ∷ []) (sym e))
+said-one (Refused r) (Built c) e = absurd (refusal-no-answer r (c .0 ∷ []) e)
+said-one (Refused r) (Refused s) e = ap Refused (refusal-one r s e)
 
+module _ (starts heads weights chosen : List ℕ) (before : Areas) where
   all-singles : Singles (faultsOf starts heads weights chosen before)
   all-singles =
       singles-both (roadAndSetFaults starts heads weights chosen) (lengthsFault (askedLengths (nodesOf starts) before) ∷ []) (road-and-set-singles starts heads weights chosen)
       (of-single, tt)
 
-  set-right : None (faultsOf starts heads weights chosen before) → length chosen ≡ nodesOf starts
-  set-right n = set-long (nodesOf starts) chosen (unheld (input-none n .1 .1 .1 .0))
+  left : None (faultsOf starts heads weights chosen before) → RoadAndSetLeft starts heads weights chosen
+  left n = road-and-set-left starts heads weights chosen (none-front (roadAndSetFaults starts heads weights chosen) (lengthsFault (askedLengths (nodesOf starts) before) ∷ []) n)
+
+  -- document 01's order: its faults tell these numbers, one after the other
+  pub numbered : Numbered (allFaults starts heads weights chosen before) (1 ∷ 2 ∷ 3 ∷ 6 ∷ 11 ∷ 12 ∷ [])
+  numbered =
+      let g = graph-numbered roadLimits starts heads weights in
+      (g .0, (g .1 .0, (g .1 .1 .0, (of-number, (of-number, (of-number, tt))))))
 
 module _ {starts heads weights chosen : List ℕ} {before : Areas} where
   pub answer-of : {said : Said} {after : Areas} → Outcome starts heads weights chosen before said after → said .number ≡ 0 → Answer starts heads weights chosen before said after
@@ -91,9 +107,9 @@ module _ {starts heads weights chosen : List ℕ} {before : Areas} where
   answer-of (full n m) e = absurd (number-some Room e)
   answer-of (built {starts′ = starts′} {heads′ = heads′} {weights′ = weights′} n few o) e =
       record {
-        sound = input-sound starts heads weights chosen i;
-        bytes = bytes;
-        bits = set-bits (nodesOf starts) chosen (unheld (i .1 .1 .1 .0));
+        sound = x .sound;
+        bytes = x .set-right .bytes;
+        bits = x .set-right .bits;
         count = length heads′;
         values = refl;
         few = not-over (length heads′) (overlayLimits .arcs .0) (λ h. few (record { count = length heads′; counted = pairs; over = inr h }));
@@ -104,14 +120,11 @@ module _ {starts heads weights chosen : List ℕ} {before : Areas} where
         counted = pairs;
       }
     where
-      i : None (roadAndSetFaults starts heads weights chosen)
-      i = input-none starts heads weights chosen before n
-
-      bytes : length chosen ≡ nodesOf starts
-      bytes = set-right starts heads weights chosen before n
+      x : RoadAndSetLeft starts heads weights chosen
+      x = left starts heads weights chosen before n
 
       pairs : ArcsInAll (road starts heads weights) chosen (length heads′)
-      pairs = Unique.written-count (road starts heads weights) chosen starts′ heads′ weights′ o bytes
+      pairs = Unique.written-count (road starts heads weights) chosen starts′ heads′ weights′ o (x .set-right .bytes)
 
   -- two outcomes that the contract allows are equal
   pub outcome-one :
@@ -132,26 +145,32 @@ module _ {starts heads weights chosen : List ℕ} {before : Areas} where
   )
     where
       e : length chosen ≡ nodesOf starts
-      e = set-right starts heads weights chosen before n
+      e = left starts heads weights chosen before n .set-right .bytes
 
       heads-same : h ≡ h′
       heads-same = Unique.heads-one (road starts heads weights) chosen e s h w s′ h′ w′ o p
 
-  -- a refusal is of the first fault of all, 12 being the last
-  pub refused-first :
-      {said : Said} {after : Areas} → Outcome starts heads weights chosen before said after → said .number ≢ 0 →
-      (r : Refusal) × (said ≡ refusal r) × First (faultsOf starts heads weights chosen before ++ (roomFault (road starts heads weights) chosen (length (before .heads)) ∷ [])) r
-  refused-first (refused {r = r} f) z = (r, refl, early (faultsOf starts heads weights chosen before) r f)
-    where
-      early : (Fs : List Fault) (r : Refusal) → First Fs r → First (Fs ++ (roomFault (road starts heads weights) chosen (length (before .heads)) ∷ [])) r
-      early (F ∷ Fs) r (inl x) = inl x
-      early (F ∷ Fs) r (inr x) = inr (x .0, early Fs r (x .1))
-  refused-first (full n m) z = (Room, refl, late (faultsOf starts heads weights chosen before) n)
-    where
-      late : (Fs : List Fault) → None Fs → First (Fs ++ (roomFault (road starts heads weights) chosen (length (before .heads)) ∷ [])) Room
-      late [] x = inl (told m)
-      late (F ∷ Fs) x = inr (x .0, late Fs (x .1))
+  -- and so are two answers
+  pub answer-one :
+      (a b : OverlayAnswer) {after after′ : Areas} → Outcome starts heads weights chosen before (saidOf a) after → Outcome starts heads weights chosen before (saidOf b) after′ →
+      (a ≡ b) × (after ≡ after′)
+  answer-one a b o p = let e = outcome-one o p in (said-one a b (e .0), e .1)
+
+  -- a refusal is of the first fault of all
+  pub refused-first : {said : Said} {after : Areas} → Outcome starts heads weights chosen before said after → said .number ≢ 0 → (r : Refusal) × (said ≡ refusal r) × First (allFaults starts heads weights chosen before) r
+  refused-first (refused {r = r} f) z = (r, refl, first-early (faultsOf starts heads weights chosen before) (roomFault (road starts heads weights) chosen (length (before .heads)) ∷ []) r f)
+  refused-first (full n m) z = (Room, refl, first-late (faultsOf starts heads weights chosen before) (roomFault (road starts heads weights) chosen (length (before .heads)) ∷ []) Room n (inl (told {r = Room} m)))
   refused-first (built n m o) z = absurd (z refl)
+
+  -- an input with two neighbouring faults, and none before them, is refused by the first
+  pub in-order :
+      {said : Said} {after : Areas} → Outcome starts heads weights chosen before said after → (i : ℕ) (r s : Refusal) → NoneTo (allFaults starts heads weights chosen before) i → HoldsAt (allFaults starts heads weights chosen before) i r →
+      HoldsAt (allFaults starts heads weights chosen before) (suc i) s → said ≡ refusal r
+  in-order {said} o i r s n f g = by (first-split (faultsOf starts heads weights chosen before) (roomFault (road starts heads weights) chosen (length (before .heads)) ∷ []) r (first-at (allFaults starts heads weights chosen before) i r n f))
+    where
+      by : First (faultsOf starts heads weights chosen before) r ⊎ (None (faultsOf starts heads weights chosen before) × First (roomFault (road starts heads weights) chosen (length (before .heads)) ∷ []) r) → said ≡ refusal r
+      by (inl x) = outcome-one o (refused x) .0
+      by (inr x) = ⊎-elim (λ m. outcome-one o (full (x .0) (m .holds)) .0 ∙ ap refusal (sym (m .is))) (λ m. absurd (m .1)) (x .1)
 
 module _ {starts heads weights chosen : List ℕ} {before : Areas} {said : Said} {after : Areas} (a : Answer starts heads weights chosen before said after) where
   -- the arcs that are written are those of the definition, no others

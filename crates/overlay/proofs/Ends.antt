@@ -1,8 +1,7 @@
 -- Check 7: from the rows' ends to the fault.
-use mathlib.Core.Path.{_≡_, refl, sym, ap, subst, _∙_}
-use mathlib.Core.Logic.{_⊎_, inl, inr, _≢_}
+use mathlib.Core.Path.{_≡_, refl, sym, subst}
 use mathlib.Core.List.{List}
-use Prim.Native.Nat.{ℕ, zero, suc, _+_, _-_, _≤_, _<_}
+use Prim.Native.Nat.{ℕ, _+_, _-_, _≤_, _<_}
 use native.Mathlib.Decide.{ℕ-discrete}
 use native.Mathlib.Omega.{arith}
 use lib.ListN.{length, getD}
@@ -12,12 +11,14 @@ use Rattle.road.specs.declared.Verdict.{Verdict}
 use Rattle.road.specs.declared.Verdict.the-variants.{Passed, Refused}
 use Rattle.road.specs.Faults.{InSet, graphFaults}
 use Rattle.road.specs.Limits.{overlayLimits}
-use Rattle.road.specs.Refusals.{Judged, Judges, None, First}
-use Rattle.road.specs.Roads.{nodesOf, Owns, Rising, Sound}
+use Rattle.road.specs.workings.Verdicts.{Judged, Judges}
+use Rattle.road.specs.Roads.{Owns}
+use Rattle.road.specs.workings.Sound.{Sound}
 use Rattle.road.proofs.Faults.{sound-of}
 use Rattle.road.proofs.Refusals.{first-not-none, not-both, refuses}
 use Rattle.road.proofs.Rows.{owner-node, owned-listed, owner-of}
-use Rattle.overlay.specs.Lent.{BadOverlay, RowEnds, RowEndsTo, EndsBelow, JudgesRow, overlayFault}
+use Rattle.overlay.specs.Lent.{BadOverlay, overlayFault}
+use Rattle.overlay.specs.workings.Ends.{RowEnds, RowEndsTo, EndsBelow, JudgesRow}
 
 module _ (chosen starts heads : List ℕ) (u : ℕ) where
   pub ends-none : (p : ℕ) → p ≡ getD starts u 0 → RowEndsTo chosen starts heads u p

@@ -1,6 +1,6 @@
 -- Wrong versions that the contract rules out, where no edit of the code has the same shape.
 use mathlib.Core.Path.{_≡_, refl, sym, ap, subst, _∙_}
-use mathlib.Core.Logic.{_⊎_, inl, inr, ⊎-elim, _≢_}
+use mathlib.Core.Logic.{_⊎_, ⊎-elim, _≢_}
 use mathlib.Core.List.{List, [], _∷_}
 use Prim.Native.Nat.{ℕ, zero, suc, _+_, _*_, _≤_, _<_}
 use native.Mathlib.Numerals.{add-one}
@@ -9,16 +9,20 @@ use lib.ListN.{length, getD, take, replicate}
 use lib.Seq.{getD-take}
 use Rattle.paths.specs.Graphs.{Graph, Along, stop, step, Reaches}
 use Rattle.paths.specs.Lists.{Inside}
-use Rattle.road.specs.declared.Refusal.the-variants.{Room, Set}
-use Rattle.road.specs.Faults.{InSet, BadSet, graphFaults}
-use Rattle.road.specs.Limits.{roadLimits, overlayLimits}
+use Rattle.road.specs.declared.Refusal.the-variants.{Room}
+use Rattle.road.specs.Faults.{InSet}
+use Rattle.road.specs.Limits.{overlayLimits}
+use Rattle.road.specs.declared.Verdict.{Verdict}
+use Rattle.road.specs.declared.Verdict.the-variants.{Passed}
+use Rattle.road.specs.workings.Verdicts.{Judged}
+use Rattle.overlay.specs.Lent.{BadOverlay, overlayFault}
 use Rattle.road.specs.Refusals.{None, Said, refusal, answer}
 use Rattle.road.specs.Roads.{nodesOf, Owns, Arc, road}
-use Rattle.road.proofs.Refusals.{first-not-none, told}
+use Rattle.road.proofs.Refusals.{first-not-none, unheld}
 use Rattle.overlay.specs.Calls.{Areas, Outcome, refused, full, built, TooMany, faultsOf}
 use Rattle.overlay.specs.Numbers.{Number, none, one, skip}
 use Rattle.overlay.specs.Overlays.{Outside, OverlayArc, HasArc, Arcs, ArcsInAll}
-use Rattle.overlay.proofs.Demands.{Answer, answer-of, outcome-one, no-other, all-there}
+use Rattle.overlay.proofs.Demands.{Answer, answer-of, no-other, all-there}
 use Rattle.overlay.proofs.Locals.{arcs-one}
 
 module _ {starts heads weights chosen : List ℕ} {before : Areas} where
@@ -71,11 +75,11 @@ module _ {starts heads weights chosen : List ℕ} {before : Areas} where
   one-too-many (full i m) n c k v = refl
   one-too-many (built i m o) n c k v = absurd (m (record { count = c; counted = k; over = v }))
 
-  -- Two checks are exchanged: where the set is wrong and no earlier fault holds, the outcome is 6, whatever the lengths and the room.
-  pub in-order :
-      {said : Said} {after : Areas} → Outcome starts heads weights chosen before said after → None (graphFaults roadLimits starts heads weights) → BadSet (nodesOf starts) chosen →
-      said ≡ refusal Set
-  in-order o g b = outcome-one o (refused (inr (g .0, inr (g .1 .0, inr (g .1 .1 .0, inl (told b)))))) .0
+  -- Arcs of weight 0 are left out: an arc of the definition is written, whatever it weighs.
+  pub weightless : {said : Said} {after : Areas} →
+      (a : Answer starts heads weights chosen before said after) (u v : ℕ) → OverlayArc (road starts heads weights) chosen u v 0 →
+      Arc (after .starts) (take (a .count) (after .heads)) (take (a .count) (after .weights)) u v 0
+  weightless a u v o = all-there a u v 0 o
 
   -- A made-up count: an answer's is the number of pairs of the definition.
   pub counts : {said : Said} {after : Areas} →
@@ -241,3 +245,7 @@ module _ where
 
       by : Answer (0 ∷ 1 ∷ 2 ∷ 3 ∷ []) (1 ∷ 2 ∷ 0 ∷ []) (1 ∷ 2 ∷ 4 ∷ []) (0 ∷ 0 ∷ 1 ∷ []) before said after → said ≡ answer (0 ∷ [])
       by a = a .values ∙ ap (λ (c : ℕ). answer (c ∷ [])) (no-arcs alone (a .counted))
+
+-- Check 7 takes one start too few, or too many: the verdict on it is not passed.
+pub one-start-off : {chosen starts heads weights : List ℕ} {v : Verdict} → Judged (overlayFault chosen starts heads weights) v → length starts ≢ length chosen + 1 → v ≢ Passed
+one-start-off j n e = unheld (j .passed e) (BadOverlay.unlike n)

@@ -7,5 +7,6 @@ pub mod Rooms
 pub mod Ends
 pub mod Outcomes
 pub mod Unique
+pub mod Crossing
 pub mod Demands
 pub mod Forbidden

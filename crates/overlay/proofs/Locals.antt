@@ -1,6 +1,6 @@
 -- From the labels of one search to the arcs of one row.
-use mathlib.Core.Path.{_≡_, refl, sym, ap, subst, _∙_}
-use mathlib.Core.Logic.{_⊎_, inl, inr, _≢_}
+use mathlib.Core.Path.{_≡_, refl, subst}
+use mathlib.Core.Logic.{_⊎_, inl, inr}
 use mathlib.Core.List.{List}
 use Prim.Native.Nat.{ℕ, zero, suc, _+_, _-_, _*_, _≤_, _<_}
 use native.Mathlib.Decide.{decLt, ℕ-discrete}
@@ -8,16 +8,15 @@ use native.Mathlib.Nat.{suc-mul}
 use native.Mathlib.Omega.{arith}
 use lib.ListN.{length, getD, List·getD-eq-default}
 use Rattle.paths.specs.Graphs.{Graph, Reaches}
-use Rattle.paths.specs.Least.{Least, Told, Under}
-use Rattle.paths.proofs.Least.{least-one, told-carries}
+use Rattle.paths.specs.Least.{Under}
+use Rattle.paths.proofs.Least.{told-carries}
 use Rattle.paths.proofs.Lists.{inside-map}
 use Rattle.road.specs.Faults.{InSet}
 use Rattle.road.specs.Limits.{overlayLimits}
-use Rattle.road.specs.Roads.{nodesOf, road, Sound}
-use Rattle.search.specs.Rows.{Free, Row}
+use Rattle.search.specs.workings.Rows.{Free, Row, labelAt}
 use Rattle.overlay.specs.Numbers.{Number, one}
-use Rattle.overlay.specs.Overlays.{Outside, OverlayArc, HasArc, Arcs, none, row, ArcsInAll}
-use Rattle.overlay.specs.Writing.{Searching, Local, Found, Light, Fits, RowRoom, Enough}
+use Rattle.overlay.specs.Overlays.{Outside, OverlayArc, HasArc, Arcs, none, row}
+use Rattle.overlay.specs.workings.Writing.{Local, Found, Light, Fits, RowRoom, Enough}
 use Rattle.overlay.proofs.Numbers.{rise, number-one, number-few, number-rise, number-none, number-of, number-map}
 
 pub has-arc : {G : Graph} {chosen : List ℕ} {a b w : ℕ} → OverlayArc G chosen a b w → HasArc G chosen a b
@@ -58,9 +57,9 @@ module _ (G : Graph) (chosen : List ℕ) (bits : (v : ℕ) → getD chosen v 0 �
 
 module _ (chosen labels : List ℕ) (a : ℕ) where
   pub found? : (b : ℕ) → Found chosen labels a b ⊎ (Found chosen labels a b → ⊥)
-  found? b = by (ℕ-discrete (getD chosen b 0) 1) (ℕ-discrete a b) (ℕ-discrete (getD labels b 0) 0)
+  found? b = by (ℕ-discrete (getD chosen b 0) 1) (ℕ-discrete a b) (ℕ-discrete (labelAt labels b) 0)
     where
-      by : Dec (InSet chosen b) → Dec (a ≡ b) → Dec (getD labels b 0 ≡ 0) → Found chosen labels a b ⊎ (Found chosen labels a b → ⊥)
+      by : Dec (InSet chosen b) → Dec (a ≡ b) → Dec (labelAt labels b ≡ 0) → Found chosen labels a b ⊎ (Found chosen labels a b → ⊥)
       by (no n) e l = inr (λ f. n (f .head))
       by (yes i) (yes e) l = inr (λ f. f .apart e)
       by (yes i) (no n) (yes z) = inr (λ f. f .label z)
@@ -79,7 +78,7 @@ module _ (G : Graph) (chosen : List ℕ) (as-long : length chosen ≡ G .nodes) 
   none-outside o = number-none (G .nodes) (λ v h x. o (x .tail))
 
   module _ (member : InSet chosen a) (labels : List ℕ) (l : Local G chosen a labels) where
-    pub found-arc : (b w : ℕ) → Found chosen labels a b → getD labels b 0 ≡ suc w → OverlayArc G chosen a b w
+    pub found-arc : (b w : ℕ) → Found chosen labels a b → labelAt labels b ≡ suc w → OverlayArc G chosen a b w
     found-arc b w f e =
         record { tail = member; head = f .head; apart = f .apart; least = l .told b (omega (arith, in-bytes chosen b (f .head), as-long)) .some w e }
 
@@ -92,9 +91,9 @@ module _ (G : Graph) (chosen : List ℕ) (as-long : length chosen ≡ G .nodes) 
         }
 
     found-has : (b : ℕ) → Found chosen labels a b → HasArc G chosen a b
-    found-has b f = by (getD labels b 0) refl
+    found-has b f = by (labelAt labels b) refl
       where
-        by : (y : ℕ) → getD labels b 0 ≡ y → HasArc G chosen a b
+        by : (y : ℕ) → labelAt labels b ≡ y → HasArc G chosen a b
         by zero e = absurd (f .label e)
         by (suc d) e = has-arc (found-arc b d f e)
 
@@ -106,10 +105,10 @@ module _ (G : Graph) (chosen : List ℕ) (as-long : length chosen ≡ G .nodes) 
     pub fits-of : Light G chosen → Fits chosen labels a
     fits-of g = record { fits = small }
       where
-        small : (b : ℕ) → Found chosen labels a b → getD labels b 0 ≤ suc (overlayLimits .weight)
-        small b f = by (getD labels b 0) refl
+        small : (b : ℕ) → Found chosen labels a b → labelAt labels b ≤ suc (overlayLimits .weight)
+        small b f = by (labelAt labels b) refl
           where
-            by : (y : ℕ) → getD labels b 0 ≡ y → getD labels b 0 ≤ suc (overlayLimits .weight)
+            by : (y : ℕ) → labelAt labels b ≡ y → labelAt labels b ≤ suc (overlayLimits .weight)
             by zero e = omega arith
             by (suc d) e = omega (arith, g .light a b d (found-arc b d f e))
 

@@ -1,45 +1,34 @@
 -- The call: from its checks to the outcome.
-use mathlib.Core.Path.{_≡_, refl, sym, ap, subst, subst₂, _∙_}
-use mathlib.Core.Logic.{_⊎_, inl, inr, _≢_}
+use mathlib.Core.Path.{_≡_, sym, ap, subst, subst₂, _∙_}
+use mathlib.Core.Logic.{_⊎_, inl}
 use mathlib.Core.List.{List, [], _∷_, _++_}
-use Prim.Native.Nat.{ℕ, zero, suc, _+_, _-_, _*_, _≤_, _<_}
-use native.Mathlib.Decide.{decLt, ℕ-discrete}
-use native.Mathlib.Nat.{mul-le-mul-right, le-trans}
+use Prim.Native.Nat.{ℕ, _+_, _-_, _*_, _≤_, _<_}
+use native.Mathlib.Nat.{mul-le-mul-right}
 use native.Mathlib.Omega.{arith}
-use lib.ListN.{length, getD, take, drop, replicate, length-replicate, length-drop, take-append-drop, List·getD-eq-default}
+use lib.ListN.{length, getD, take, drop, replicate, length-replicate, length-drop, take-append-drop}
 use lib.Seq.{getD-drop, ext-getD, length-take-le}
-use Rattle.paths.specs.Graphs.{Graph, arcsOf}
+use Rattle.paths.specs.Graphs.{arcsOf}
 use Rattle.paths.proofs.Weights.{path-light}
 use Rattle.road.specs.declared.Refusal.{Refusal}
 use Rattle.road.specs.declared.Refusal.the-variants.{Room}
 use Rattle.road.specs.declared.Verdict.{Verdict}
 use Rattle.road.specs.declared.Verdict.the-variants.{Passed, Refused}
 use Rattle.road.specs.Chains.{roadAndSetFaults}
-use Rattle.road.specs.Faults.{BadSet, graphFaults, setFault, lengthsFault}
+use Rattle.road.specs.Faults.{lengthsFault}
 use Rattle.road.specs.Limits.{roadLimits, overlayLimits}
-use Rattle.road.specs.Refusals.{Judged, Judges, None, refusal, answer}
-use Rattle.road.specs.Roads.{nodesOf, road, Sound}
-use Rattle.road.proofs.Faults.{sound-of, sound-wider, road-proper, road-lighter, alike-of, not-unlike, not-over}
-use Rattle.road.proofs.Refusals.{judged-alone, stops, goes-on, none-front, unheld}
-use Rattle.overlay.specs.Calls.{Areas, Ready, Outcome, refused, full, built, TooMany, answered, cleared, askedLengths, faultsOf}
-use Rattle.overlay.specs.Overlays.{OverlayArc, OverlayOf, ArcsInAll}
-use Rattle.overlay.specs.Writing.{Searching, Light, Enough, Building}
-use Rattle.overlay.proofs.Locals.{arcs-one, room-behind}
+use Rattle.road.specs.workings.Verdicts.{Judged, Judges}
+use Rattle.road.specs.Refusals.{refusal, answer}
+use Rattle.road.specs.Roads.{nodesOf, road}
+use Rattle.road.specs.workings.Sound.{Sound}
+use Rattle.road.proofs.Faults.{sound-wider, road-proper, road-lighter, long-at, not-over}
+use Rattle.road.proofs.Left.{road-and-set-left}
+use Rattle.road.proofs.Refusals.{judged-alone, stops, goes-on, unheld}
+use Rattle.overlay.specs.Calls.{Areas, Outcome, refused, full, built, TooMany, answered, cleared, askedLengths, faultsOf}
+use Rattle.overlay.specs.workings.Ready.{Ready}
+use Rattle.overlay.specs.Overlays.{OverlayArc, ArcsInAll}
+use Rattle.overlay.specs.workings.Writing.{Searching, Light, Enough, Building}
+use Rattle.overlay.proofs.Locals.{arcs-one}
 use Rattle.overlay.proofs.Rooms.{overlay-of}
-
--- what check 6 leaves
-module _ (n : ℕ) (bytes : List ℕ) (f : BadSet n bytes → ⊥) where
-  pub set-long : length bytes ≡ n
-  set-long = not-unlike (length bytes) n (λ u. f (BadSet.unlike u))
-
-  pub set-bits : (v : ℕ) → getD bytes v 0 ≤ 1
-  set-bits v = by (decLt v (length bytes)) (ℕ-discrete (getD bytes v 0) 0) (ℕ-discrete (getD bytes v 0) 1)
-    where
-      by : Dec (v < length bytes) → Dec (getD bytes v 0 ≡ 0) → Dec (getD bytes v 0 ≡ 1) → getD bytes v 0 ≤ 1
-      by (no n) d e = omega (arith, List·getD-eq-default bytes 0 {n = v} (omega arith))
-      by (yes h) (yes z) e = omega arith
-      by (yes h) (no z) (yes o) = omega arith
-      by (yes h) (no z) (no o) = absurd (f (BadSet.other v h z o))
 
 -- filled with zeros, over a length that is known
 pub zeros-of : (l : List ℕ) (n m : ℕ) → l ≡ replicate n 0 → n ≡ m → l ≡ replicate m 0
@@ -169,11 +158,8 @@ module _ (starts heads weights chosen : List ℕ) where
                   touched = sym touched-zero i;
                 }
 
-  pub input-sound : None (roadAndSetFaults starts heads weights chosen) → Sound roadLimits starts heads weights
-  input-sound n = sound-of roadLimits starts heads weights (none-front (graphFaults roadLimits starts heads weights) (setFault (nodesOf starts) chosen ∷ []) n)
-
   pub few-nodes : (v : Verdict) → Judges (roadAndSetFaults starts heads weights chosen) v → v ≡ Passed → nodesOf starts ≤ 4096
-  few-nodes v j p = omega (arith, input-sound (j .passed p) .sized .most)
+  few-nodes v j p = omega (arith, road-and-set-left starts heads weights chosen (j .passed p) .sound .sized .most)
 
 -- From the checks to the outcome.
 module _ (starts heads weights chosen : List ℕ) (a : Areas) where
@@ -190,17 +176,17 @@ module _ (starts heads weights chosen : List ℕ) (a : Areas) where
 
       pub ready : v ≡ Passed → Ready starts heads weights chosen a
       ready q =
-          let n = j .passed p in
-          let y = alike-of (askedLengths (nodesOf starts) a) (unheld (l .passed q)) in
+          let x = road-and-set-left starts heads weights chosen (j .passed p) in
+          let y = long-at (askedLengths (nodesOf starts) a) (unheld (l .passed q)) in
           record {
-            sound = input-sound starts heads weights chosen n;
+            sound = x .sound;
             none = all-judged .passed q;
-            bytes = set-long (nodesOf starts) chosen (unheld (n .1 .1 .1 .0));
-            bits = set-bits (nodesOf starts) chosen (unheld (n .1 .1 .1 .0));
-            starts-long = y .0;
-            rooms-alike = y .1 .0;
-            labels-long = y .1 .1 .0;
-            heap-long = y .1 .1 .1 .0;
-            places-long = y .1 .1 .1 .1 .0;
-            touched-long = y .1 .1 .1 .1 .1 .0;
+            bytes = x .set-right .bytes;
+            bits = x .set-right .bits;
+            starts-long = y 0;
+            rooms-alike = y 1;
+            labels-long = y 2;
+            heap-long = y 3;
+            places-long = y 4;
+            touched-long = y 5;
           }

@@ -1,10 +1,10 @@
 -- One tail after another: counting the arcs, and writing the rows into the rooms.
 use mathlib.Core.Path.{_≡_, refl, sym, ap, subst, subst₂, _∙_}
-use mathlib.Core.Logic.{_⊎_, inl, inr, _≢_}
-use mathlib.Core.List.{List, _++_}
-use Prim.Native.Nat.{ℕ, zero, suc, _+_, _-_, _*_, _≤_, _<_}
-use native.Mathlib.Decide.{decLt, ℕ-discrete}
-use native.Mathlib.Nat.{mul-le-mul-right, mul-le-mul-left, le-trans}
+use mathlib.Core.Logic.{_≢_}
+use mathlib.Core.List.{List}
+use Prim.Native.Nat.{ℕ, suc, _+_, _-_, _*_, _≤_, _<_}
+use native.Mathlib.Decide.{ℕ-discrete}
+use native.Mathlib.Nat.{mul-le-mul-right, le-trans}
 use native.Mathlib.Numerals.{add-one}
 use native.Mathlib.Omega.{arith}
 use borrow.Rule.Slice.PartMut.{midOf, putMid}
@@ -13,10 +13,10 @@ use lib.Seq.{getD-take, length-take-le}
 use Rattle.paths.specs.Graphs.{Graph}
 use Rattle.road.specs.Faults.{InSet}
 use Rattle.road.specs.Roads.{nodesOf, road}
-use Rattle.search.specs.Rows.{Asks, Row}
+use Rattle.search.specs.workings.Rows.{Asks, Row}
 use Rattle.overlay.specs.Numbers.{Number}
-use Rattle.overlay.specs.Overlays.{Outside, OverlayArc, HasArc, RowAt, OverlayOf, Arcs, none, row, ArcsInAll}
-use Rattle.overlay.specs.Writing.{Searching, Local, Found, Light, Fits, RowRoom, Enough, Wrote, RowWritten, Building}
+use Rattle.overlay.specs.Overlays.{Outside, OverlayArc, HasArc, RowAt, OverlayOf, Arcs, none, row}
+use Rattle.overlay.specs.workings.Writing.{Searching, Local, Found, Light, Fits, RowRoom, Enough, Wrote, RowWritten, Building}
 use Rattle.overlay.proofs.Locals.{local-of, none-outside, counted-row, fits-of, arcs-few, room-for-row, room-behind}
 use Rattle.overlay.proofs.Parts.{part-long, part-at, put-long, put-before, put-within}
 use Rattle.overlay.proofs.Written.{entry-kept, entry-new, length-written, row-of}

@@ -1,6 +1,6 @@
 -- A row is unique, and so is the overlay; its arcs are counted by the definition alone.
 use mathlib.Core.Path.{_≡_, refl, sym, ap, subst, _∙_}
-use mathlib.Core.Logic.{_⊎_, inl, inr, _≢_}
+use mathlib.Core.Logic.{_≢_}
 use mathlib.Core.List.{List}
 use Prim.Native.Nat.{ℕ, zero, suc, _+_, _-_, _≤_, _<_}
 use native.Mathlib.Decide.{decLt, ℕ-discrete}
@@ -10,7 +10,8 @@ use lib.ListN.{length, getD}
 use lib.Seq.{ext-getD}
 use Rattle.paths.specs.Graphs.{Graph}
 use Rattle.paths.proofs.Least.{least-one}
-use Rattle.road.specs.Roads.{nodesOf, Owns, Arc, Rising}
+use Rattle.road.specs.Roads.{nodesOf, Owns, Arc}
+use Rattle.road.specs.workings.Sound.{Rising}
 use Rattle.road.proofs.Rows.{owner-node, owned-listed, owner-of}
 use Rattle.overlay.specs.Numbers.{Number, none, one, skip}
 use Rattle.overlay.specs.Overlays.{OverlayArc, HasArc, RowAt, OverlayOf, Arcs, row, ArcsInAll}

@@ -1,19 +1,20 @@
 -- Writing one arc, one row, and all rows.
 use mathlib.Core.Path.{_≡_, refl, sym, ap, subst, _∙_}
-use mathlib.Core.Logic.{_⊎_, inl, inr, _≢_}
-use mathlib.Core.List.{List, _++_}
-use Prim.Native.Nat.{ℕ, zero, suc, _+_, _-_, _*_, _≤_, _<_}
-use native.Mathlib.Decide.{decLt, ℕ-discrete}
+use mathlib.Core.Logic.{_≢_}
+use mathlib.Core.List.{List}
+use Prim.Native.Nat.{ℕ, suc, _+_, _-_, _≤_, _<_}
+use native.Mathlib.Decide.{ℕ-discrete}
 use native.Mathlib.Numerals.{add-one}
 use native.Mathlib.Omega.{arith}
-use lib.ListN.{length, getD, set, take, drop, length-set}
+use lib.ListN.{length, getD, set, length-set}
 use lib.Seq.{getD-set-same, getD-set-other}
 use Rattle.paths.specs.Graphs.{Graph}
 use Rattle.road.specs.Faults.{InSet}
 use Rattle.overlay.specs.Numbers.{Number, one, skip}
-use Rattle.overlay.specs.Overlays.{Outside, OverlayArc, HasArc, RowAt, Arcs, row, ArcsInAll}
-use Rattle.overlay.specs.Writing.{Local, Found, Light, Fits, RowRoom, Enough, WroteArc, put, left, Wrote, RowWritten, Building}
-use Rattle.overlay.proofs.Locals.{in-bytes, none-outside, found-arc, arc-found, counted-row}
+use Rattle.overlay.specs.Overlays.{HasArc, RowAt}
+use Rattle.overlay.specs.workings.Writing.{Local, Found, WroteArc, put, left, Wrote}
+use Rattle.overlay.proofs.Locals.{in-bytes, found-arc, arc-found}
+use Rattle.search.specs.workings.Rows.{labelAt}
 
 pub as-wide : (i n m : ℕ) → i < n → m ≡ n → i < m
 as-wide i n m h e = omega arith
@@ -58,7 +59,7 @@ module _ (chosen labels : List ℕ) (a : ℕ) where
             ascends = λ p h. omega (arith, g .ascends p h, same p, same (p + 1));
             found = λ p h. subst (λ (x : ℕ). Found chosen labels a x) (sym (same p)) (g .found p h);
             below = λ p h. omega (arith, g .below p h, same p);
-            weighed = λ p h. ap (λ (x : ℕ). getD labels x 0) (same p) ∙ g .weighed p h ∙ ap suc (sym (ap (λ (k : List ℕ). getD k p 0) f));
+            weighed = λ p h. ap (λ (x : ℕ). labelAt labels x) (same p) ∙ g .weighed p h ∙ ap suc (sym (ap (λ (k : List ℕ). getD k p 0) f));
             all = λ b h x. all-by b h x (ℕ-discrete b v);
             heads-kept = λ p h. same p ∙ g .heads-kept p h;
             weights-kept = λ p h. ap (λ (k : List ℕ). getD k p 0) f ∙ g .weights-kept p h;
@@ -77,7 +78,7 @@ module _ (chosen labels : List ℕ) (a : ℕ) where
 
       -- the arc to v is written behind the others
       added :
-          (w : ℕ) → Found chosen labels a v → getD labels v 0 ≡ suc w → heads′ ≡ set heads r v → weights′ ≡ set weights r w → r < length heads → r < length weights →
+          (w : ℕ) → Found chosen labels a v → labelAt labels v ≡ suc w → heads′ ≡ set heads r v → weights′ ≡ set weights r w → r < length heads → r < length weights →
           Wrote chosen labels a (suc v) heads₀ weights₀ heads′ weights′ (suc r)
       added w x l e f hh hw =
           record {
@@ -111,9 +112,9 @@ module _ (chosen labels : List ℕ) (a : ℕ) where
           below-by p h (yes q) = omega (arith, new p q)
           below-by p h (no n) = omega (arith, old p n, g .below p (omega arith))
 
-          weighed-by : (p : ℕ) → p < suc r → Dec (p ≡ r) → getD labels (getD heads′ p 0) 0 ≡ suc (getD weights′ p 0)
-          weighed-by p h (yes q) = ap (λ (y : ℕ). getD labels y 0) (new p q) ∙ l ∙ ap suc (sym (entry-new weights weights′ r w p f hw q))
-          weighed-by p h (no n) = ap (λ (y : ℕ). getD labels y 0) (old p n) ∙ g .weighed p (omega arith) ∙ ap suc (sym (entry-kept weights weights′ r w p f n))
+          weighed-by : (p : ℕ) → p < suc r → Dec (p ≡ r) → labelAt labels (getD heads′ p 0) ≡ suc (getD weights′ p 0)
+          weighed-by p h (yes q) = ap (λ (y : ℕ). labelAt labels y) (new p q) ∙ l ∙ ap suc (sym (entry-new weights weights′ r w p f hw q))
+          weighed-by p h (no n) = ap (λ (y : ℕ). labelAt labels y) (old p n) ∙ g .weighed p (omega arith) ∙ ap suc (sym (entry-kept weights weights′ r w p f n))
 
           all-by : (b : ℕ) → b < suc v → Found chosen labels a b → Dec (b ≡ v) → (p : ℕ) × (p < suc r) × (getD heads′ p 0 ≡ b)
           all-by b h y (yes q) = (r, omega arith, new r refl ∙ sym q)

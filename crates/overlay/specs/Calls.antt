@@ -1,17 +1,16 @@
 -- The overlay call: what it is lent, what it says, and what it leaves.
-use mathlib.Core.Path.{_≡_}
 use mathlib.Core.Logic.{_⊎_}
 use mathlib.Core.List.{List, [], _∷_, _++_}
-use Prim.Native.Nat.{ℕ, _+_, _*_, _≤_, _<_}
-use lib.ListN.{length, getD, replicate, drop}
+use Prim.Native.Nat.{ℕ, _+_, _*_, _<_}
+use lib.ListN.{length, replicate, drop}
 use Rattle.paths.specs.Graphs.{Graph}
 use Rattle.road.specs.declared.Refusal.{Refusal}
 use Rattle.road.specs.declared.Refusal.the-variants.{Room}
 use Rattle.road.specs.Chains.{roadAndSetFaults}
 use Rattle.road.specs.Faults.{lengthsFault}
-use Rattle.road.specs.Limits.{roadLimits, overlayLimits}
+use Rattle.road.specs.Limits.{overlayLimits}
 use Rattle.road.specs.Refusals.{Fault, Of, First, None, Said, refusal, answer}
-use Rattle.road.specs.Roads.{nodesOf, road, Sound}
+use Rattle.road.specs.Roads.{nodesOf, road}
 use Rattle.overlay.specs.declared.OverlayAnswer.{OverlayAnswer}
 use Rattle.overlay.specs.declared.OverlayAnswer.the-variants.{Built, Refused}
 use Rattle.overlay.specs.Overlays.{OverlayOf, ArcsInAll}
@@ -31,6 +30,11 @@ pub record Areas : Type 0 where
   pub places : List ℕ
   pub touched : List ℕ
 
+-- the same, gathered from the call's slices at one moment of it
+abbrev pub areas : {A : Type 0} → (A → List ℕ) → A → A → A → A → A → A → A → Areas
+areas at starts heads weights labels heap places touched =
+    record { starts = at starts; heads = at heads; weights = at weights; labels = at labels; heap = at heap; places = at places; touched = at touched }
+
 -- their lengths, each with the length asked; the two rooms are of equal length
 abbrev pub askedLengths : ℕ → Areas → List (ℕ × ℕ)
 askedLengths n a =
@@ -49,6 +53,11 @@ pub record TooMany (G : Graph) (chosen : List ℕ) (room : ℕ) : Type 0 where
 
 abbrev pub roomFault : Graph → List ℕ → ℕ → Fault
 roomFault G chosen room = Of Room (TooMany G chosen room)
+
+-- all its faults, in order: 1 2 3 6 11 12
+abbrev pub allFaults : List ℕ → List ℕ → List ℕ → List ℕ → Areas → List Fault
+allFaults starts heads weights chosen a =
+    faultsOf starts heads weights chosen a ++ (roomFault (road starts heads weights) chosen (length (a .heads)) ∷ [])
 
 -- results as they were, and work filled with zeros
 abbrev pub cleared : ℕ → Areas → Areas
@@ -88,16 +97,3 @@ pub data Outcome (starts heads weights chosen : List ℕ) (before : Areas) : Sai
       {starts′ heads′ weights′ : List ℕ} → None (faultsOf starts heads weights chosen before) → (TooMany (road starts heads weights) chosen (length (before .heads)) → ⊥) →
       OverlayOf (road starts heads weights) chosen starts′ heads′ weights′ →
       Outcome starts heads weights chosen before (answer (length heads′ ∷ [])) (answered (nodesOf starts) before starts′ heads′ weights′)
-
--- what the checks leave: the graph is well formed, the set is one of its nodes, and the lengths are right
-pub record Ready (starts heads weights chosen : List ℕ) (a : Areas) : Type 0 where
-  pub sound : Sound roadLimits starts heads weights
-  pub none : None (faultsOf starts heads weights chosen a)
-  pub bytes : length chosen ≡ nodesOf starts
-  pub bits : (v : ℕ) → getD chosen v 0 ≤ 1
-  pub starts-long : length (a .starts) ≡ nodesOf starts + 1
-  pub rooms-alike : length (a .heads) ≡ length (a .weights)
-  pub labels-long : length (a .labels) ≡ nodesOf starts
-  pub heap-long : length (a .heap) ≡ 2 * nodesOf starts
-  pub places-long : length (a .places) ≡ nodesOf starts
-  pub touched-long : length (a .touched) ≡ nodesOf starts

@@ -2,5 +2,5 @@
 pub mod Numbers
 pub mod Overlays
 pub mod Lent
-pub mod Writing
 pub mod Calls
+pub mod workings

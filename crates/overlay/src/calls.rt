@@ -14,9 +14,11 @@ ghost use mathlib.Core.Path.{_≡_};
 ghost use mathlib.Core.Logic.{_⊎_};
 ghost use Prim.Native.Nat.{_≤_, _<_};
 ghost use lib.ListN.{length, replicate};
+ghost use Rattle.lent.specs.Slices.{before, after};
 ghost use Rattle.road.specs.Faults.{lengthsFault};
-ghost use Rattle.road.specs.Refusals.{Judged, Tells};
-ghost use Rattle.overlay.specs.Calls.{Outcome, Ready, askedLengths, saidOf};
+ghost use Rattle.road.specs.workings.Verdicts.{Judged, Tells};
+ghost use Rattle.overlay.specs.Calls.{areas, Outcome, askedLengths, saidOf};
+ghost use Rattle.overlay.specs.workings.Ready.{Ready};
 
 // Check 11: the results and the work, of a graph with n nodes.
 fn check_lengths(
@@ -30,7 +32,7 @@ fn check_lengths(
     touched: &[u32],
 ) -> Verdict
     requires { ⌜ n .0 ≤ 4096 ⌝ }
-    ensures { λ r. ⌜ Judged (lengthsFault (askedLengths (n .0) (record { starts = now («over_starts» .entry); heads = now («over_heads» .entry); weights = now («over_weights» .entry); labels = now (labels .entry); heap = now (heap .entry); places = now (places .entry); touched = now (touched .entry) }))) r ⌝ }
+    ensures { λ r. ⌜ Judged (lengthsFault (askedLengths (n .0) (areas before «over_starts» «over_heads» «over_weights» labels heap places touched))) r ⌝ }
 {
     if over_starts.len() != n.0 + 1 {
         return Verdict::Refused(Refusal::Lengths);
@@ -55,7 +57,7 @@ fn check_lengths(
 
 // Fills the work with zeros.
 fn clear_work(labels: &mut [u64], heap: &mut [u32], places: &mut [u32], touched: &mut [u32])
-    ensures { λ _. ⌜ (now (labels .exit) ≡ replicate (length (now (labels .entry))) 0) × (now (heap .exit) ≡ replicate (length (now (heap .entry))) 0) × (now (places .exit) ≡ replicate (length (now (places .entry))) 0) × (now (touched .exit) ≡ replicate (length (now (touched .entry))) 0) ⌝ }
+    ensures { λ _. ⌜ (after labels ≡ replicate (length (before labels)) 0) × (after heap ≡ replicate (length (before heap)) 0) × (after places ≡ replicate (length (before places)) 0) × (after touched ≡ replicate (length (before touched)) 0) ⌝ }
 {
     clear_labels(labels);
     clear(heap);
@@ -91,8 +93,8 @@ fn build(
     places: &mut [u32],
     touched: &mut [u32],
 ) -> OverlayAnswer
-    requires { ⌜ Ready (now starts) (now heads) (now weights) (now set) (record { starts = now «over_starts»; heads = now «over_heads»; weights = now «over_weights»; labels = now labels; heap = now heap; places = now places; touched = now touched }) ⌝ }
-    ensures { λ r. ⌜ Outcome (now (starts .entry)) (now (heads .entry)) (now (weights .entry)) (now (set .entry)) (record { starts = now («over_starts» .entry); heads = now («over_heads» .entry); weights = now («over_weights» .entry); labels = now (labels .entry); heap = now (heap .entry); places = now (places .entry); touched = now (touched .entry) }) (saidOf r) (record { starts = now («over_starts» .exit); heads = now («over_heads» .exit); weights = now («over_weights» .exit); labels = now (labels .exit); heap = now (heap .exit); places = now (places .exit); touched = now (touched .exit) }) ⌝ }
+    requires { ⌜ Ready (now starts) (now heads) (now weights) (now set) (areas now «over_starts» «over_heads» «over_weights» labels heap places touched) ⌝ }
+    ensures { λ r. ⌜ Outcome (before starts) (before heads) (before weights) (before set) (areas before «over_starts» «over_heads» «over_weights» labels heap places touched) (saidOf r) (areas after «over_starts» «over_heads» «over_weights» labels heap places touched) ⌝ }
 {
     clear_work(labels, heap, places, touched);
     let count = count_arcs(starts, heads, weights, set, labels, heap, places);
@@ -131,7 +133,7 @@ pub fn overlay(
     places: &mut [u32],
     touched: &mut [u32],
 ) -> OverlayAnswer
-    ensures { λ r. ⌜ Outcome (now (starts .entry)) (now (heads .entry)) (now (weights .entry)) (now (set .entry)) (record { starts = now («over_starts» .entry); heads = now («over_heads» .entry); weights = now («over_weights» .entry); labels = now (labels .entry); heap = now (heap .entry); places = now (places .entry); touched = now (touched .entry) }) (saidOf r) (record { starts = now («over_starts» .exit); heads = now («over_heads» .exit); weights = now («over_weights» .exit); labels = now (labels .exit); heap = now (heap .exit); places = now (places .exit); touched = now (touched .exit) }) ⌝ }
+    ensures { λ r. ⌜ Outcome (before starts) (before heads) (before weights) (before set) (areas before «over_starts» «over_heads» «over_weights» labels heap places touched) (saidOf r) (areas after «over_starts» «over_heads» «over_weights» labels heap places touched) ⌝ }
 {
     let input = check_road_and_set(starts, heads, weights, set);
     if let Verdict::Refused(r) = input {

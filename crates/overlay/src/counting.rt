@@ -4,9 +4,10 @@ use road::ArcCount;
 use search::search;
 ghost use mathlib.Core.Path.{_≡_};
 ghost use Prim.Native.Nat.{_+_, _<_};
-ghost use Rattle.road.specs.Roads.{nodesOf, road};
+ghost use Rattle.lent.specs.Slices.{before, after};
+ghost use Rattle.road.specs.Roads.{nodesOf, roadAt};
 ghost use Rattle.overlay.specs.Overlays.{Arcs, ArcsInAll};
-ghost use Rattle.overlay.specs.Writing.{Searching};
+ghost use Rattle.overlay.specs.workings.Writing.{Searching};
 
 // Adds the arcs of one tail.
 fn count_tail(
@@ -22,9 +23,9 @@ fn count_tail(
 ) -> ArcCount
     requires { ⌜ Searching (now starts) (now heads) (now weights) (now set) (now labels) (now heap) (now places) ⌝ }
     requires { ⌜ tail < nodesOf (now starts) ⌝ }
-    requires { ⌜ Arcs (road (now starts) (now heads) (now weights)) (now set) tail (count .0) ⌝ }
-    ensures { λ r. ⌜ Arcs (road (now (starts .entry)) (now (heads .entry)) (now (weights .entry))) (now (set .entry)) (tail + 1) (r .0) ⌝ }
-    ensures { λ _. ⌜ (now (heap .exit) ≡ now (heap .entry)) × (now (places .exit) ≡ now (places .entry)) ⌝ }
+    requires { ⌜ Arcs (roadAt now starts heads weights) (now set) tail (count .0) ⌝ }
+    ensures { λ r. ⌜ Arcs (roadAt before starts heads weights) (before set) (tail + 1) (r .0) ⌝ }
+    ensures { λ _. ⌜ (after heap ≡ before heap) × (after places ≡ before places) ⌝ }
 {
     if set[tail] == 0 {
         return count;
@@ -45,8 +46,8 @@ pub fn count_arcs(
     places: &mut [u32],
 ) -> ArcCount
     requires { ⌜ Searching (now starts) (now heads) (now weights) (now set) (now labels) (now heap) (now places) ⌝ }
-    ensures { λ r. ⌜ ArcsInAll (road (now (starts .entry)) (now (heads .entry)) (now (weights .entry))) (now (set .entry)) (r .0) ⌝ }
-    ensures { λ _. ⌜ (now (heap .exit) ≡ now (heap .entry)) × (now (places .exit) ≡ now (places .entry)) ⌝ }
+    ensures { λ r. ⌜ ArcsInAll (roadAt before starts heads weights) (before set) (r .0) ⌝ }
+    ensures { λ _. ⌜ (after heap ≡ before heap) × (after places ≡ before places) ⌝ }
 {
     let mut count = ArcCount(0);
     let mut tail = 0;

@@ -3,15 +3,16 @@ use road::ArcCount;
 ghost use mathlib.Core.Path.{_≡_};
 ghost use Prim.Native.Nat.{_≤_, _<_};
 ghost use lib.ListN.{length};
-ghost use Rattle.road.specs.Refusals.{Tells};
+ghost use Rattle.lent.specs.Slices.{before, after};
+ghost use Rattle.road.specs.workings.Verdicts.{Tells};
 ghost use Rattle.overlay.specs.Numbers.{Number};
-ghost use Rattle.overlay.specs.Writing.{Fits, Found, RowRoom, Writable, Wrote, WroteArc};
+ghost use Rattle.overlay.specs.workings.Writing.{Fits, Found, RowRoom, Writable, Wrote, WroteArc};
 
 // Whether an overlay arc leads from the tail to v.
 fn is_head(set: &[u8], labels: &[u64], tail: usize, v: usize) -> bool
     requires { ⌜ v < length (now set) ⌝ }
     requires { ⌜ length (now labels) ≡ length (now set) ⌝ }
-    ensures { λ r. ⌜ Tells r (Found (now (set .entry)) (now (labels .entry)) tail v) ⌝ }
+    ensures { λ r. ⌜ Tells r (Found (before set) (before labels) tail v) ⌝ }
 {
     if set[v] != 1 {
         return false;
@@ -28,7 +29,7 @@ fn is_head(set: &[u8], labels: &[u64], tail: usize, v: usize) -> bool
 // How many arcs the row has.
 pub fn count_row(set: &[u8], labels: &[u64], tail: usize) -> ArcCount
     requires { ⌜ length (now labels) ≡ length (now set) ⌝ }
-    ensures { λ r. ⌜ Number (Found (now (set .entry)) (now (labels .entry)) tail) (length (now (set .entry))) (r .0) ⌝ }
+    ensures { λ r. ⌜ Number (Found (before set) (before labels) tail) (length (before set)) (r .0) ⌝ }
 {
     let mut count = 0;
     let mut v = 0;
@@ -52,7 +53,7 @@ fn write_arc(
     place: ArcCount,
 ) -> ArcCount
     requires { ⌜ Writable (now set) (now labels) tail v (place .0) (length (now heads)) (length (now weights)) ⌝ }
-    ensures { λ r. ⌜ WroteArc (now (set .entry)) (now (labels .entry)) tail v (place .0) (now (heads .entry)) (now (weights .entry)) (now (heads .exit)) (now (weights .exit)) (r .0) ⌝ }
+    ensures { λ r. ⌜ WroteArc (before set) (before labels) tail v (place .0) (before heads) (before weights) (after heads) (after weights) (r .0) ⌝ }
 {
     if is_head(set, labels, tail, v) {
         let at = place.0;
@@ -77,7 +78,7 @@ pub fn write_row(
     requires { ⌜ length (now weights) ≡ length (now heads) ⌝ }
     requires { ⌜ Fits (now set) (now labels) tail ⌝ }
     requires { ⌜ RowRoom (now set) (now labels) tail (length (now heads)) ⌝ }
-    ensures { λ r. ⌜ Wrote (now (set .entry)) (now (labels .entry)) tail (length (now (set .entry))) (now (heads .entry)) (now (weights .entry)) (now (heads .exit)) (now (weights .exit)) (r .0) ⌝ }
+    ensures { λ r. ⌜ Wrote (before set) (before labels) tail (length (before set)) (before heads) (before weights) (after heads) (after weights) (r .0) ⌝ }
 {
     let mut count = ArcCount(0);
     let mut v = 0;

@@ -5,9 +5,10 @@ use search::search;
 ghost use mathlib.Core.Path.{_≡_};
 ghost use Prim.Native.Nat.{_+_, _≤_, _<_};
 ghost use lib.ListN.{length};
-ghost use Rattle.road.specs.Roads.{nodesOf, road};
+ghost use Rattle.lent.specs.Slices.{before, after};
+ghost use Rattle.road.specs.Roads.{nodesOf, roadAt};
 ghost use Rattle.overlay.specs.Overlays.{Arcs};
-ghost use Rattle.overlay.specs.Writing.{Building, Enough, Light, RowWritten, Searching};
+ghost use Rattle.overlay.specs.workings.Writing.{Building, Enough, Light, RowWritten, Searching};
 
 // Writes the row of one tail from where the former ended; gives where it ends.
 fn write_tail(
@@ -24,13 +25,13 @@ fn write_tail(
     count: ArcCount,
 ) -> ArcCount
     requires { ⌜ Searching (now starts) (now heads) (now weights) (now set) (now labels) (now heap) (now places) ⌝ }
-    requires { ⌜ Light (road (now starts) (now heads) (now weights)) (now set) ⌝ }
-    requires { ⌜ Enough (road (now starts) (now heads) (now weights)) (now set) (length (now «over_heads»)) ⌝ }
+    requires { ⌜ Light (roadAt now starts heads weights) (now set) ⌝ }
+    requires { ⌜ Enough (roadAt now starts heads weights) (now set) (length (now «over_heads»)) ⌝ }
     requires { ⌜ length (now «over_weights») ≡ length (now «over_heads») ⌝ }
     requires { ⌜ tail < nodesOf (now starts) ⌝ }
-    requires { ⌜ Arcs (road (now starts) (now heads) (now weights)) (now set) tail (count .0) ⌝ }
-    ensures { λ r. ⌜ RowWritten (road (now (starts .entry)) (now (heads .entry)) (now (weights .entry))) (now (set .entry)) tail (now («over_heads» .entry)) (now («over_weights» .entry)) (now («over_heads» .exit)) (now («over_weights» .exit)) (count .0) (r .0) ⌝ }
-    ensures { λ _. ⌜ (now (heap .exit) ≡ now (heap .entry)) × (now (places .exit) ≡ now (places .entry)) ⌝ }
+    requires { ⌜ Arcs (roadAt now starts heads weights) (now set) tail (count .0) ⌝ }
+    ensures { λ r. ⌜ RowWritten (roadAt before starts heads weights) (before set) tail (before «over_heads») (before «over_weights») (after «over_heads») (after «over_weights») (count .0) (r .0) ⌝ }
+    ensures { λ _. ⌜ (after heap ≡ before heap) × (after places ≡ before places) ⌝ }
 {
     if set[tail] == 0 {
         return count;
@@ -61,12 +62,12 @@ pub fn write_arcs(
     places: &mut [u32],
 ) -> ArcCount
     requires { ⌜ Searching (now starts) (now heads) (now weights) (now set) (now labels) (now heap) (now places) ⌝ }
-    requires { ⌜ Light (road (now starts) (now heads) (now weights)) (now set) ⌝ }
-    requires { ⌜ Enough (road (now starts) (now heads) (now weights)) (now set) (length (now «over_heads»)) ⌝ }
+    requires { ⌜ Light (roadAt now starts heads weights) (now set) ⌝ }
+    requires { ⌜ Enough (roadAt now starts heads weights) (now set) (length (now «over_heads»)) ⌝ }
     requires { ⌜ length (now «over_starts») ≡ nodesOf (now starts) + 1 ⌝ }
     requires { ⌜ length (now «over_weights») ≡ length (now «over_heads») ⌝ }
-    ensures { λ r. ⌜ Building (road (now (starts .entry)) (now (heads .entry)) (now (weights .entry))) (now (set .entry)) (nodesOf (now (starts .entry))) (now («over_heads» .entry)) (now («over_weights» .entry)) (now («over_starts» .exit)) (now («over_heads» .exit)) (now («over_weights» .exit)) (r .0) ⌝ }
-    ensures { λ _. ⌜ (now (heap .exit) ≡ now (heap .entry)) × (now (places .exit) ≡ now (places .entry)) ⌝ }
+    ensures { λ r. ⌜ Building (roadAt before starts heads weights) (before set) (nodesOf (before starts)) (before «over_heads») (before «over_weights») (after «over_starts») (after «over_heads») (after «over_weights») (r .0) ⌝ }
+    ensures { λ _. ⌜ (after heap ≡ before heap) × (after places ≡ before places) ⌝ }
 {
     over_starts[0] = 0;
     let mut count = ArcCount(0);

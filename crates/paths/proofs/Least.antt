@@ -1,5 +1,5 @@
 -- Least numbers are unique, and carry over between sets whose numbers lie under one another's.
-use mathlib.Core.Path.{_≡_, sym, subst, _∙_}
+use mathlib.Core.Path.{_≡_, subst}
 use Prim.Native.Nat.{ℕ, zero, suc, _≤_}
 use native.Mathlib.Omega.{arith}
 use Rattle.paths.specs.Least.{Least, Empty, Told, Under}

@@ -6,6 +6,7 @@ use Prim.Native.Nat.{ℕ, zero, suc, _+_, _≤_, _<_}
 use native.Mathlib.Decide.{ℕ-discrete}
 use native.Mathlib.Omega.{arith}
 use lib.ListN.{length, getD}
+use Rattle.paths.specs.Graphs.{Any}
 use Rattle.paths.specs.Lists.{Mem, Different, Each, Inside}
 
 -- whether a stands in the list
@@ -96,6 +97,17 @@ inside-map P Q f (x ∷ y ∷ l) i = (f x (i .0), inside-map P Q f (y ∷ l) (i 
 pub inside-cons : (P : ℕ → Type 0) (x : ℕ) (l : List ℕ) → P x → Inside P l → Inside P (x ∷ l)
 inside-cons P x [] p h = tt
 inside-cons P x (y ∷ l) p h = (p, h)
+
+-- what holds of every node of a list holds of those before its last
+pub each-inside : (P : ℕ → Type 0) (l : List ℕ) → Each P l → Inside P l
+each-inside P [] e = tt
+each-inside P (x ∷ []) e = tt
+each-inside P (x ∷ y ∷ l) e = (e .0, each-inside P (y ∷ l) (e .1))
+
+pub any-inside : (l : List ℕ) → Inside Any l
+any-inside [] = tt
+any-inside (x ∷ []) = tt
+any-inside (x ∷ y ∷ l) = (tt, any-inside (y ∷ l))
 
 -- one node fewer: the list without one place at which a stands
 record Without (a : ℕ) (l : List ℕ) : Type 0 where

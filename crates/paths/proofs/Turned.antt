@@ -1,8 +1,8 @@
 -- The graph turned round has the paths turned round, of the same weights.
-use mathlib.Core.Path.{_≡_, refl, sym, ap, subst}
-use mathlib.Core.Logic.{_⊎_, inl, inr, ⊎-elim}
+use mathlib.Core.Path.{_≡_, refl, sym, subst}
+use mathlib.Core.Logic.{inl, inr}
 use mathlib.Core.List.{List, [], _∷_, reverse, reverseAux, tail-eq-of-cons-eq}
-use Prim.Native.Nat.{ℕ, _+_, _<_}
+use Prim.Native.Nat.{ℕ, _+_}
 use native.Mathlib.Omega.{arith}
 use Rattle.paths.specs.Lists.{Mem, Different, Inside}
 use Rattle.paths.specs.Graphs.{Graph, Proper, turned, Along, stop, step, IsPath, Reaches}

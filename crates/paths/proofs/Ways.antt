@@ -106,6 +106,11 @@ module _ {G : Graph} where
   end-node g h stop = h
   end-node g h (step s r) = end-node g (g .head s) r
 
+  -- the last node of a way that goes anywhere stands in its list
+  pub end-in : {s t w y : ℕ} {l : List ℕ} → Along G s (y ∷ l) t w → Mem t (y ∷ l)
+  end-in (step x stop) = inl refl
+  end-in (step x (step y r)) = inr (end-in (step y r))
+
   -- a path is cut into two paths
   pub cut-path : Proper G → {a : ℕ} {l : List ℕ} {b w : ℕ} (c : ℕ) → IsPath G a l b w → Mem c (a ∷ l) → Parts G a l b w c
   cut-path g {a} {l} {b} {w} c p h = parted (cut c (p .along) h)

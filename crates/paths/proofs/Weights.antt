@@ -1,7 +1,6 @@
 -- How many nodes a path has, and how much it weighs.
-use mathlib.Core.Path.{_≡_}
-use mathlib.Core.List.{List, [], _∷_}
-use Prim.Native.Nat.{ℕ, suc, _+_, _-_, _*_, _≤_, _<_}
+use mathlib.Core.List.{List, _∷_}
+use Prim.Native.Nat.{ℕ, _-_, _*_, _≤_, _<_}
 use native.Mathlib.Nat.{mul-le-mul-right, le-trans, suc-mul}
 use native.Mathlib.Omega.{arith}
 use lib.ListN.{length}

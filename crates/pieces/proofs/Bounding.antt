@@ -15,9 +15,9 @@ use Rattle.road.specs.Limits.{overlayLimits}
 use Rattle.road.specs.Roads.{road}
 use Rattle.road.proofs.Faults.{road-proper}
 use Rattle.rule.specs.Rule.{Dropped, Needed, PathOf}
-use Rattle.pieces.specs.Pieces.{Even, Pieced, Kept, Near, Fits, Row, Below, Waits, Level, Spreads, Spread}
-use Rattle.trails.specs.Search.{Larger}
-use Rattle.pieces.specs.Steps.{Prunable}
+use Rattle.pieces.specs.workings.Pieces.{Even, Pieced, Kept, Near, Fits, Row, Below, Waits, Level, Spreads, Spread}
+use Rattle.trails.specs.workings.Search.{Larger}
+use Rattle.pieces.specs.workings.Steps.{Prunable}
 use Rattle.trails.proofs.Completing.{joined-of}
 use Rattle.trails.proofs.Halves.{Halves, halves, halves-free}
 use Rattle.pieces.proofs.Ready.{prunable-still}

@@ -7,9 +7,9 @@ use lib.ListN.{length, getD}
 use Rattle.paths.specs.Lists.{Each}
 use Rattle.paths.proofs.Lists.{each-mem, mem-at}
 use Rattle.road.specs.Limits.{overlayLimits}
-use Rattle.trails.specs.Search.{Searchable}
+use Rattle.trails.specs.workings.Search.{Searchable}
 use Rattle.trails.proofs.Searching.{searchable}
-use Rattle.pieces.specs.Steps.{Prunable}
+use Rattle.pieces.specs.workings.Steps.{Prunable}
 
 module _ (starts heads weights starts′ heads′ weights′ cover : List ℕ) (g : Prunable starts heads weights starts′ heads′ weights′ cover) where
   pub search-forth : Searchable starts heads (length cover)

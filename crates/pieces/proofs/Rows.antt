@@ -5,8 +5,8 @@ use Prim.Native.Nat.{ℕ, _+_, _≤_, _<_}
 use native.Mathlib.Omega.{arith}
 use borrow.Author.Count.{below-more}
 use lib.ListN.{length, getD}
-use Rattle.pieces.specs.Pieces.{Row, Below}
-use Rattle.trails.specs.Search.{Searchable}
+use Rattle.pieces.specs.workings.Pieces.{Row, Below}
+use Rattle.trails.specs.workings.Search.{Searchable}
 use Rattle.trails.proofs.Searching.{row-bounds, place-listed, head-node}
 
 -- P holds of the heads at the places of v's row below i

@@ -12,9 +12,10 @@ use lib.ListN.{length, getD, set, length-set}
 use lib.Seq.{getD-set-same, getD-set-other}
 use Rattle.paths.specs.Graphs.{Graph, turned}
 use Rattle.road.specs.Counting.{bit, under}
-use Rattle.road.specs.Roads.{road, TurnedRound}
+use Rattle.road.specs.Roads.{road}
+use Rattle.road.specs.workings.Sound.{TurnedRound}
 use Rattle.rule.specs.Rule.{Dropped}
-use Rattle.pieces.specs.Pieces.{Row, Raised, Raises, none, more, Waits, Level, Spreads, Grown, Spread}
+use Rattle.pieces.specs.workings.Pieces.{Row, Raised, Raises, none, more, Waits, Level, Spreads, Grown, Spread}
 use Rattle.trails.proofs.Completing.{joined-of}
 
 -- a number raised to r is no longer below it

@@ -1,3 +1,2 @@
 -- The pieces' sizes, and what pruning is lent.
-pub mod Pieces
-pub mod Steps
+pub mod workings

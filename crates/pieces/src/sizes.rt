@@ -1,23 +1,26 @@
 // The sizes of the pieces that the dropped nodes make: with its neighbours' sizes alone a node may be
 // seen not to be needed. Nothing is searched here.
 use road::NodeCount;
+use road::row;
 use road::wide;
 use trails::larger;
 ghost use mathlib.Core.Path.{_≡_};
 ghost use Prim.Native.Nat.{_+_, _≤_, _<_};
 ghost use lib.ListN.{length};
+ghost use Rattle.lent.specs.Slices.{before, after};
 ghost use Rattle.road.specs.Counting.{under};
-ghost use Rattle.road.specs.Roads.{road};
-ghost use Rattle.pieces.specs.Pieces.{Below, Fits, Kept, Raised, Raises, Row, Spread, Spreads};
-ghost use Rattle.trails.specs.Search.{Searchable};
-ghost use Rattle.pieces.specs.Steps.{OfK, Prunable};
+ghost use Rattle.road.specs.Roads.{roadAt};
+ghost use Rattle.pieces.specs.workings.Pieces.{Below, Fits, Kept, Raised, Raises, Row, Spread, Spreads};
+ghost use Rattle.trails.specs.workings.Search.{Searchable};
+ghost use Rattle.pieces.specs.workings.Steps.{Prunable};
+ghost use Rattle.road.specs.workings.Left.{OfK};
 
 // Of p and x the one whose size is larger, where x is dropped; otherwise p.
 fn above(cover: &[u8], sizes: &[u32], p: u32, x: u32) -> u32
     requires { ⌜ length (now sizes) ≡ length (now cover) ⌝ }
     requires { ⌜ p < length (now cover) ⌝ }
     requires { ⌜ x < length (now cover) ⌝ }
-    ensures { λ r. ⌜ r < length (now (cover .entry)) ⌝ }
+    ensures { λ r. ⌜ r < length (before cover) ⌝ }
 {
     if cover[wide(x)] != 0 {
         return p;
@@ -35,10 +38,11 @@ fn top(starts: &[u32], heads: &[u32], cover: &[u8], sizes: &[u32], v: usize, p: 
     requires { ⌜ length (now sizes) ≡ length (now cover) ⌝ }
     requires { ⌜ v < length (now cover) ⌝ }
     requires { ⌜ p < length (now cover) ⌝ }
-    ensures { λ r. ⌜ r < length (now (cover .entry)) ⌝ }
+    ensures { λ r. ⌜ r < length (before cover) ⌝ }
 {
-    let end = wide(starts[v + 1]);
-    let mut i = wide(starts[v]);
+    let arcs = row(starts, v);
+    let end = arcs.end;
+    let mut i = arcs.first;
     let mut best = p;
     while i < end {
         best = above(cover, sizes, best, heads[i]);
@@ -51,7 +55,7 @@ fn top(starts: &[u32], heads: &[u32], cover: &[u8], sizes: &[u32], v: usize, p: 
 fn size_of(cover: &[u8], sizes: &[u32], but: u32, x: u32) -> usize
     requires { ⌜ length (now sizes) ≡ length (now cover) ⌝ }
     requires { ⌜ x < length (now cover) ⌝ }
-    ensures { λ r. ⌜ Below (now (cover .entry)) (now (sizes .entry)) but r x ⌝ }
+    ensures { λ r. ⌜ Below (before cover) (before sizes) but r x ⌝ }
 {
     if cover[wide(x)] != 0 {
         return 0;
@@ -67,10 +71,11 @@ fn largest(starts: &[u32], heads: &[u32], cover: &[u8], sizes: &[u32], v: usize,
     requires { ⌜ Searchable (now starts) (now heads) (length (now cover)) ⌝ }
     requires { ⌜ length (now sizes) ≡ length (now cover) ⌝ }
     requires { ⌜ v < length (now cover) ⌝ }
-    ensures { λ r. ⌜ Row (now (starts .entry)) (now (heads .entry)) v (Below (now (cover .entry)) (now (sizes .entry)) but r) ⌝ }
+    ensures { λ r. ⌜ Row (before starts) (before heads) v (Below (before cover) (before sizes) but r) ⌝ }
 {
-    let end = wide(starts[v + 1]);
-    let mut i = wide(starts[v]);
+    let arcs = row(starts, v);
+    let end = arcs.end;
+    let mut i = arcs.first;
     let mut best = 0;
     while i < end {
         best = larger(best, size_of(cover, sizes, but, heads[i]));
@@ -96,9 +101,9 @@ pub fn size_for(
 ) -> NodeCount
     requires { ⌜ Prunable (now starts) (now heads) (now weights) (now «starts_back») (now «heads_back») (now «weights_back») (now cover) ⌝ }
     requires { ⌜ OfK (k .0) ⌝ }
-    requires { ⌜ Kept (road (now starts) (now heads) (now weights)) (k .0) (now cover) (now sizes) (now pieces) ⌝ }
+    requires { ⌜ Kept (roadAt now starts heads weights) (k .0) (now cover) (now sizes) (now pieces) ⌝ }
     requires { ⌜ v < length (now cover) ⌝ }
-    ensures { λ r. ⌜ Fits (road (now (starts .entry)) (now (heads .entry)) (now (weights .entry))) (k .0) (now (cover .entry)) (now (sizes .entry)) v (r .0) ⌝ }
+    ensures { λ r. ⌜ Fits (roadAt before starts heads weights) (k .0) (before cover) (before sizes) v (r .0) ⌝ }
 {
     let at = wide(v);
     let ahead = top(starts, heads, cover, sizes, at, v);
@@ -122,8 +127,8 @@ fn raise(cover: &[u8], pieces: &mut [u32], sizes: &mut [u32], count: usize, r: u
     requires { ⌜ length (now sizes) ≡ length (now cover) ⌝ }
     requires { ⌜ count + under r (now sizes) ≤ length (now pieces) ⌝ }
     requires { ⌜ y < length (now cover) ⌝ }
-    ensures { λ c. ⌜ Raises r (now (sizes .entry)) (now (pieces .entry)) count (now (sizes .exit)) (now (pieces .exit)) c ⌝ }
-    ensures { λ _. ⌜ Raised (now (cover .entry)) (now (sizes .exit)) r y ⌝ }
+    ensures { λ c. ⌜ Raises r (before sizes) (before pieces) count (after sizes) (after pieces) c ⌝ }
+    ensures { λ _. ⌜ Raised (before cover) (after sizes) r y ⌝ }
 {
     if cover[wide(y)] != 0 {
         return count;
@@ -151,11 +156,12 @@ fn raise_row(
     requires { ⌜ length (now sizes) ≡ length (now cover) ⌝ }
     requires { ⌜ waiting + under r (now sizes) ≤ length (now pieces) ⌝ }
     requires { ⌜ x < length (now cover) ⌝ }
-    ensures { λ c. ⌜ Raises r (now (sizes .entry)) (now (pieces .entry)) waiting (now (sizes .exit)) (now (pieces .exit)) c ⌝ }
-    ensures { λ _. ⌜ Row (now (starts .entry)) (now (heads .entry)) x (Raised (now (cover .entry)) (now (sizes .exit)) r) ⌝ }
+    ensures { λ c. ⌜ Raises r (before sizes) (before pieces) waiting (after sizes) (after pieces) c ⌝ }
+    ensures { λ _. ⌜ Row (before starts) (before heads) x (Raised (before cover) (after sizes) r) ⌝ }
 {
-    let end = wide(starts[x + 1]);
-    let mut i = wide(starts[x]);
+    let arcs = row(starts, x);
+    let end = arcs.end;
+    let mut i = arcs.first;
     let mut count = waiting;
     while i < end {
         count = raise(cover, pieces, sizes, count, r, heads[i]);
@@ -179,8 +185,8 @@ pub fn spread(
     r: u32,
 )
     requires { ⌜ Prunable (now starts) (now heads) (now weights) (now «starts_back») (now «heads_back») (now «weights_back») (now cover) ⌝ }
-    requires { ⌜ Spreads (road (now starts) (now heads) (now weights)) (now cover) r (now sizes) (now pieces) 0 1 ⌝ }
-    ensures { λ _. ⌜ Spread (road (now (starts .entry)) (now (heads .entry)) (now (weights .entry))) (now (cover .entry)) r (now (sizes .entry)) (now (sizes .exit)) ⌝ }
+    requires { ⌜ Spreads (roadAt now starts heads weights) (now cover) r (now sizes) (now pieces) 0 1 ⌝ }
+    ensures { λ _. ⌜ Spread (roadAt before starts heads weights) (before cover) r (before sizes) (after sizes) ⌝ }
 {
     let mut i = 0;
     let mut count = 1;

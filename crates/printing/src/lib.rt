@@ -1,12 +1,5 @@
-// What the sample programs have in common: numbers and refusals printed, and what a slice holds.
-mod slices;
-
+// Numbers and refusals, printed.
 use road::Refusal;
-pub use slices::bytes_hold;
-pub use slices::entries;
-pub use slices::hold;
-pub use slices::holding;
-pub use slices::labels_hold;
 
 // The label and the number.
 pub fn number(label: &[u8], n: u64) {

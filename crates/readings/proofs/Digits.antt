@@ -1,12 +1,12 @@
 -- Digits and their numbers.
-use mathlib.Core.Path.{_≡_, refl, sym, ap, _∙_}
+use mathlib.Core.Path.{_≡_, sym, ap, _∙_}
 use mathlib.Core.Logic.{_⊎_, inl, inr}
 use Prim.Native.Nat.{ℕ, _+_, _-_, _*_, _/_, _%_, _≤_, _<_}
 use native.Mathlib.Decide.{decLt}
 use native.Mathlib.Omega.{arith}
 use Rattle.hexlines.proofs.Values.{digit-low, digit-high}
 use Rattle.hexlines.specs.Text.{digit}
-use Rattle.readings.specs.Readings.{Valued, DigitsOf}
+use Rattle.readings.specs.workings.Readings.{Valued, DigitsOf}
 
 -- what a digit can be
 pub record LowDigit (d char : ℕ) : Type 0 where

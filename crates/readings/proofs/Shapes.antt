@@ -5,17 +5,17 @@ use mathlib.Core.List.{List, [], _∷_, _++_}
 use Prim.Native.Nat.{ℕ, zero, suc, _+_, _-_, _*_, _/_, _%_, _≤_, _<_}
 use native.Mathlib.Omega.{arith}
 use borrow.Rule.Slice.PartMut.{midOf}
-use lib.ListN.{length, getD, take, drop, set, length-append, length-set, take-append-drop}
+use lib.ListN.{length, getD, take, drop, set, length-set, take-append-drop}
 use lib.Seq.{drop-cons, drop-length, take-all, take-suc-set, drop-set-lt, drop-drop, length-take-le}
 use Rattle.paths.specs.Lists.{Each}
-use Rattle.hexlines.specs.Outputs.{one, two, four}
+use Rattle.hexlines.specs.Outputs.{two}
 use Rattle.hexlines.specs.Text.{hexText}
 use Rattle.readings.specs.declared.Line.{Line}
 use Rattle.readings.specs.declared.Line.the-variants.{Head, Arc, Question, Drive, Wrong}
 use Rattle.readings.specs.declared.Text.{Text}
 use Rattle.readings.specs.declared.Text.the-variants.{Bytes, NoBytes}
-use Rattle.readings.specs.Frames.{Frame, head, arc, question, drive, bytesOf, twos, BytesAs, ReadAs, Reads, Taken, Tells}
-use Rattle.readings.specs.Readings.{NodesRead, ReadsText, TellsFixed, TellsFrame, TextOf, TextTold, TwoAt, mostBytes}
+use Rattle.readings.specs.Frames.{Frame, head, arc, question, drive, bytesOf, twos, ReadAs, Reads, Taken, Tells}
+use Rattle.readings.specs.workings.Readings.{BytesAs, NodesRead, ReadsText, TellsFixed, TellsFrame, TextOf, TextTold, TwoAt, mostBytes}
 use Rattle.readings.proofs.Texts.{each-more, text-one, two-more}
 
 -- a list, entry by entry from place p on

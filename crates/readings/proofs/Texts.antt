@@ -5,11 +5,11 @@ use mathlib.Core.List.{List, [], _∷_, _++_}
 use Prim.Native.Nat.{ℕ, zero, suc, _+_, _*_, _/_, _%_, _≤_, _<_}
 use native.Mathlib.Omega.{arith}
 use lib.ListN.{length, getD, take, drop, set, length-set}
-use lib.Seq.{take-suc, take-all, take-suc-set}
+use lib.Seq.{take-all, take-suc-set}
 use Rattle.paths.specs.Lists.{Each}
 use Rattle.hexlines.proofs.Growing.{hexText-append, hexText-length}
 use Rattle.hexlines.specs.Text.{digit, hexText}
-use Rattle.readings.specs.Readings.{DigitsOf, Reading, TextOf, mostBytes}
+use Rattle.readings.specs.workings.Readings.{DigitsOf, Reading, TextOf, mostBytes}
 use Rattle.readings.proofs.Digits.{digit-one}
 
 pub each-at : (P : ℕ → Type 0) (l : List ℕ) (i : ℕ) → Each P l → i < length l → P (getD l i 0)

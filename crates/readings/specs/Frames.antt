@@ -42,12 +42,6 @@ Taken room (arc t h w) = Unit {0}
 Taken room (question a b) = Unit {0}
 Taken room (drive l) = (length l ≤ 64) × (length l ≤ room)
 
--- the bytes are those of the frame
-pub record BytesAs (room : ℕ) (bytes : List ℕ) (f : Frame) : Type 0 where
-  pub same : bytes ≡ bytesOf f
-  pub fits : Fits f
-  pub taken : Taken room f
-
 -- the line, without its line feed, is the text of the frame
 pub record ReadAs (room : ℕ) (line : List ℕ) (f : Frame) : Type 0 where
   pub text : line ≡ hexText (bytesOf f)

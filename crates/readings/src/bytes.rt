@@ -8,8 +8,9 @@ use road::wide;
 ghost use mathlib.Core.Path.{_≡_};
 ghost use Prim.Native.Nat.{_+_, _*_, _≤_, _<_};
 ghost use lib.ListN.{length, getD};
+ghost use Rattle.lent.specs.Slices.{before, after};
 ghost use Rattle.readings.specs.Frames.{Reads};
-ghost use Rattle.readings.specs.Readings.{NodesRead, TellsFixed, TellsFrame, TwoAt};
+ghost use Rattle.readings.specs.workings.Readings.{NodesRead, TellsFixed, TellsFrame, TwoAt};
 
 fn byte(b: u8) -> u32
     ensures { λ r. ⌜ (r ≡ b) × (b < 256) ⌝ }
@@ -20,7 +21,7 @@ fn byte(b: u8) -> u32
 // The number in the two bytes from place p on, high byte first.
 fn two_at(bytes: &[u8], p: usize) -> u32
     requires { ⌜ p + 1 < length (now bytes) ⌝ }
-    ensures { λ r. ⌜ TwoAt (now (bytes .entry)) p r ⌝ }
+    ensures { λ r. ⌜ TwoAt (before bytes) p r ⌝ }
 {
     256 * byte(bytes[p]) + byte(bytes[p + 1])
 }
@@ -28,7 +29,7 @@ fn two_at(bytes: &[u8], p: usize) -> u32
 // `10` n(2) m(2) k(1).
 fn read_head(bytes: &[u8]) -> Line
     requires { ⌜ getD (now bytes) 0 0 ≡ 16 ⌝ }
-    ensures { λ r. ⌜ TellsFixed (now (bytes .entry)) r ⌝ }
+    ensures { λ r. ⌜ TellsFixed (before bytes) r ⌝ }
 {
     if bytes.len() != 6 {
         return Line::Wrong;
@@ -48,7 +49,7 @@ fn read_head(bytes: &[u8]) -> Line
 // `11` tail(2) head(2) weight(4).
 fn read_arc(bytes: &[u8]) -> Line
     requires { ⌜ getD (now bytes) 0 0 ≡ 17 ⌝ }
-    ensures { λ r. ⌜ TellsFixed (now (bytes .entry)) r ⌝ }
+    ensures { λ r. ⌜ TellsFixed (before bytes) r ⌝ }
 {
     if bytes.len() != 9 {
         return Line::Wrong;
@@ -63,7 +64,7 @@ fn read_arc(bytes: &[u8]) -> Line
 // `20` from(2) to(2).
 fn read_question(bytes: &[u8]) -> Line
     requires { ⌜ getD (now bytes) 0 0 ≡ 32 ⌝ }
-    ensures { λ r. ⌜ TellsFixed (now (bytes .entry)) r ⌝ }
+    ensures { λ r. ⌜ TellsFixed (before bytes) r ⌝ }
 {
     if bytes.len() != 5 {
         return Line::Wrong;
@@ -76,7 +77,7 @@ fn read_question(bytes: &[u8]) -> Line
 // The nodes of a drive, to the front of the slice.
 fn read_nodes(bytes: &[u8], count: usize, nodes: &mut [u32])
     requires { ⌜ (count ≤ length (now nodes)) × (length (now bytes) ≡ 2 + 2 * count) ⌝ }
-    ensures { λ _. ⌜ NodesRead (now (bytes .entry)) (now (nodes .entry)) count (now (nodes .exit)) ⌝ }
+    ensures { λ _. ⌜ NodesRead (before bytes) (before nodes) count (after nodes) ⌝ }
 {
     let mut i = 0;
     while i < count {
@@ -88,7 +89,7 @@ fn read_nodes(bytes: &[u8], count: usize, nodes: &mut [u32])
 // `30` count(1) nodes(2 each).
 fn read_drive(bytes: &[u8], nodes: &mut [u32]) -> Line
     requires { ⌜ getD (now bytes) 0 0 ≡ 48 ⌝ }
-    ensures { λ r. ⌜ TellsFrame (now (bytes .entry)) r (now (nodes .entry)) (now (nodes .exit)) ⌝ }
+    ensures { λ r. ⌜ TellsFrame (before bytes) r (before nodes) (after nodes) ⌝ }
 {
     if bytes.len() < 2 {
         return Line::Wrong;
@@ -109,7 +110,7 @@ fn read_drive(bytes: &[u8], nodes: &mut [u32]) -> Line
 
 // The frame of the bytes, by its first.
 fn read_frame(bytes: &[u8], nodes: &mut [u32]) -> Line
-    ensures { λ r. ⌜ TellsFrame (now (bytes .entry)) r (now (nodes .entry)) (now (nodes .exit)) ⌝ }
+    ensures { λ r. ⌜ TellsFrame (before bytes) r (before nodes) (after nodes) ⌝ }
 {
     if bytes.len() == 0 {
         return Line::Wrong;
@@ -132,7 +133,7 @@ fn read_frame(bytes: &[u8], nodes: &mut [u32]) -> Line
 
 // Reads a line without its line feed; the nodes of a drive go to the front of the slice.
 pub fn read_line(line: &[u8], nodes: &mut [u32]) -> Line
-    ensures { λ r. ⌜ Reads (now (line .entry)) r (now (nodes .entry)) (now (nodes .exit)) ⌝ }
+    ensures { λ r. ⌜ Reads (before line) r (before nodes) (after nodes) ⌝ }
 {
     let mut room = [0u8; 130];
     let text = read_text(line, &mut room);

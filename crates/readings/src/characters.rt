@@ -3,7 +3,8 @@ use crate::Pair;
 use crate::Text;
 ghost use mathlib.Core.Path.{_≡_};
 ghost use lib.ListN.{length};
-ghost use Rattle.readings.specs.Readings.{Valued, ReadsPair, ReadsText, mostBytes};
+ghost use Rattle.lent.specs.Slices.{before, after};
+ghost use Rattle.readings.specs.workings.Readings.{Valued, ReadsPair, ReadsText, mostBytes};
 
 // The number of an upper-case digit, or 16.
 fn value(char: u8) -> u8
@@ -42,7 +43,7 @@ fn read_pair(high: u8, low: u8) -> Pair
 // Reads the line's bytes into the room. No frame has more than 130.
 pub fn read_text(line: &[u8], room: &mut [u8]) -> Text
     requires { ⌜ length (now room) ≡ mostBytes ⌝ }
-    ensures { λ r. ⌜ ReadsText (now (line .entry)) r (now (room .exit)) ⌝ }
+    ensures { λ r. ⌜ ReadsText (before line) r (after room) ⌝ }
 {
     if 260 < line.len() {
         return Text::NoBytes;

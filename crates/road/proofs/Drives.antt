@@ -1,17 +1,18 @@
 -- Whether two nodes are joined, by halving; and check 10, position by position.
-use mathlib.Core.Path.{_≡_, refl, sym, ap, subst, _∙_}
-use mathlib.Core.Logic.{_⊎_, inl, inr, _≢_}
+use mathlib.Core.Path.{_≡_, sym, ap, subst}
+use mathlib.Core.Logic.{_≢_}
 use mathlib.Core.List.{List}
 use Prim.Native.Nat.{ℕ, suc, _+_, _-_, _≤_, _<_}
-use native.Mathlib.Decide.{decLt, decLe, ℕ-discrete, le-ind}
+use native.Mathlib.Decide.{ℕ-discrete, le-ind}
 use native.Mathlib.Numerals.{add-one}
 use native.Mathlib.Omega.{arith}
 use borrow.Author.Count.{below-more}
 use lib.ListN.{length, getD}
-use Rattle.road.specs.declared.Refusal.{Refusal}
 use Rattle.road.specs.Limits.{mostDrive}
-use Rattle.road.specs.Roads.{nodesOf, Owns, Rising, Sorted}
-use Rattle.road.specs.Drives.{Joined, BadDrive, none, many, outside, apart, Entered}
+use Rattle.road.specs.Roads.{nodesOf, Owns}
+use Rattle.road.specs.workings.Sound.{Sorted}
+use Rattle.road.specs.Drives.{Joined, BadDrive, none, many, outside, apart}
+use Rattle.road.specs.workings.Scans.{Entered}
 use Rattle.road.proofs.Rows.{owned-listed}
 use Rattle.road.proofs.Faults.{not-over}
 

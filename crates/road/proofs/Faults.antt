@@ -1,20 +1,22 @@
 -- What it takes that a fault does not hold, and what follows where it does not: a well-formed graph is one with no fault.
 use mathlib.Core.Path.{_≡_, refl, sym, ap, subst}
-use mathlib.Core.Logic.{_⊎_, inl, inr, _≢_}
+use mathlib.Core.Logic.{inl, inr, ⊎-elim, _≢_}
 use mathlib.Core.List.{List, [], _∷_}
 use Prim.Native.Nat.{ℕ, zero, suc, _+_, _-_, _≤_, _<_}
-use native.Mathlib.Decide.{decLt, decLe, ℕ-discrete}
+use native.Mathlib.Decide.{decLt, ℕ-discrete}
 use native.Mathlib.Omega.{arith}
 use lib.ListN.{length, getD}
 use Rattle.paths.specs.Graphs.{Proper, Lighter}
 use Rattle.road.specs.declared.Limits.{Limits}
 use Rattle.road.specs.declared.Refusal.{Refusal}
-use Rattle.road.specs.declared.Refusal.the-variants.{Sizes, Starts, Arcs}
 use Rattle.road.specs.Limits.{mostNodes, mostK, roadLimits, overlayLimits}
-use Rattle.road.specs.Refusals.{Fault, Single, Singles, Of, None, First}
-use Rattle.road.specs.Roads.{nodesOf, Owns, Arc, road, Sized, Rising, Listed, Sorted, Sound}
-use Rattle.road.specs.Faults.{BadSizes, few-starts, many-starts, unlike, many-heads, many-weights, BadStarts, first, falls, last, startsFault, HeadOutside, HeadIsTail, HeadFalls, TooHeavy, arcFaults, ArcFault, graphFaults, BadSetSize, empty, many, BadK, NoNode, InSet, NotInSet, BadSet, Unlike}
-use Rattle.road.proofs.Refusals.{of-single, first-one, first-not-none, none-if-no-first, untold, unheld}
+use Rattle.road.specs.workings.Verdicts.{Single, Singles}
+use Rattle.road.specs.Order.{Numbered}
+use Rattle.road.specs.Refusals.{None, First, numberOf}
+use Rattle.road.specs.Roads.{nodesOf, Owns, road}
+use Rattle.road.specs.workings.Sound.{Sized, Rising, Listed, Sorted, Sound}
+use Rattle.road.specs.Faults.{BadSizes, few-starts, many-starts, unlike, many-heads, many-weights, BadStarts, first, falls, last, HeadOutside, HeadIsTail, HeadFalls, TooHeavy, arcFaults, ArcFault, graphFaults, BadSetSize, empty, many, BadK, NoNode, InSet, NotInSet, BadSet, Unlike}
+use Rattle.road.proofs.Refusals.{of-single, of-number, first-one, first-not-none, none-if-no-first, untold, unheld}
 use Rattle.road.proofs.Rows.{owner-node, owned-listed}
 
 -- a number that is not over a bound is under it
@@ -37,9 +39,16 @@ abbrev pub Alike : List (ℕ × ℕ) → Type 0
 Alike [] = Unit {0}
 Alike (p ∷ l) = (p .0 ≡ p .1) × Alike l
 
-pub alike-of : (pairs : List (ℕ × ℕ)) → (Unlike pairs → ⊥) → Alike pairs
-alike-of [] n = tt
-alike-of (p ∷ l) n = (not-unlike (p .0) (p .1) (λ d. n (inl d)), alike-of l (λ u. n (inr u)))
+-- the length at a place is the one asked
+abbrev pub LongAt : List (ℕ × ℕ) → ℕ → Type 0
+LongAt [] i = Unit {0}
+LongAt (p ∷ l) zero = p .0 ≡ p .1
+LongAt (p ∷ l) (suc i) = LongAt l i
+
+pub long-at : (pairs : List (ℕ × ℕ)) → (Unlike pairs → ⊥) → (i : ℕ) → LongAt pairs i
+long-at [] n i = tt
+long-at (p ∷ l) n zero = not-unlike (p .0) (p .1) (λ d. n (inl d))
+long-at (p ∷ l) n (suc i) = long-at l (λ u. n (inr u)) i
 
 pub set-size-clear : (bytes : List ℕ) → length bytes ≢ 0 → length bytes ≤ mostNodes → BadSetSize bytes → ⊥
 set-size-clear bytes a b (empty h) = a h
@@ -179,6 +188,14 @@ module _ (L : Limits) (starts heads weights : List ℕ) where
 
   pub graph-singles : Singles (graphFaults L starts heads weights)
   graph-singles = (of-single, (of-single, (arcs-single, tt)))
+
+  -- the numbers that they tell
+  pub graph-numbered : Numbered (graphFaults L starts heads weights) (1 ∷ 2 ∷ 3 ∷ [])
+  graph-numbered = (of-number, (of-number, ((λ r f. arc-number (f .place) r (f .here)), tt)))
+    where
+      arc-number : (p : ℕ) (r : Refusal) → First (arcFaults L starts heads weights p) r → numberOf r ≡ 3
+      arc-number p r =
+          ⊎-elim (of-number r) (λ f. ⊎-elim (of-number r) (λ g. ⊎-elim (of-number r) (λ h. ⊎-elim (of-number r) (λ i. absurd (i .1)) (h .1)) (g .1)) (f .1))
 
   -- what a well-formed graph means joins nodes, by steps within the limit
   pub road-proper : Sound L starts heads weights → Proper (road starts heads weights)

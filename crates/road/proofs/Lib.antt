@@ -5,6 +5,8 @@ pub mod Rows
 pub mod Scans
 pub mod Drives
 pub mod Orders
-pub mod Zeros
+pub mod Filled
 pub mod Counting
+pub mod Left
 pub mod Verdicts
+pub mod Forbidden

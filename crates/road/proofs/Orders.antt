@@ -1,5 +1,5 @@
 -- Check 5: nodes marked as they are met.
-use mathlib.Core.Path.{_≡_, refl, sym, ap, subst, _∙_}
+use mathlib.Core.Path.{_≡_, sym, ap, subst, _∙_}
 use mathlib.Core.Logic.{_⊎_, inl, inr, _≢_}
 use mathlib.Core.List.{List, [], _∷_}
 use Prim.Native.Nat.{ℕ, zero, suc, _+_, _-_, _≤_, _<_}
@@ -12,7 +12,7 @@ use Rattle.paths.specs.Lists.{Mem, Different, Each}
 use Rattle.paths.proofs.Lists.{mem?, mem-at, place-of, each-mem, mem-each, few, many, full}
 use Rattle.road.specs.Faults.{Permutation}
 use Rattle.road.proofs.Faults.{not-over}
-use Rattle.road.proofs.Zeros.{zeros-at}
+use Rattle.road.proofs.Filled.{zeros-at}
 
 -- different places of different nodes
 pub different-at : (l : List ℕ) → Different l → (i j : ℕ) → i < j → j < length l → getD l i 0 ≡ getD l j 0 → ⊥

@@ -3,13 +3,16 @@ use mathlib.Core.Path.{_≡_, refl, ap, sym, subst, _∙_}
 use mathlib.Core.Bool.{true, false}
 use mathlib.Core.Logic.{_⊎_, inl, inr, _≢_}
 use mathlib.Core.List.{List, [], _∷_, _++_}
-use Prim.Native.Nat.{ℕ}
+use Prim.Native.Nat.{ℕ, zero, suc}
 use native.Mathlib.Omega.{arith}
 use Rattle.road.specs.declared.Refusal.{Refusal}
 use Rattle.road.specs.declared.Refusal.the-variants.{Sizes, Starts, Arcs, K, Order, Set, Overlay, Node, Outside, Drive, Lengths, Room, Line}
 use Rattle.road.specs.declared.Verdict.{Verdict}
 use Rattle.road.specs.declared.Verdict.the-variants.{Passed, Refused}
-use Rattle.road.specs.Refusals.{numberOf, Fault, Single, Singles, Decided, Of, None, First, Judged, Judges, Tells}
+use lib.ListN.{getD}
+use Rattle.road.specs.Order.{HoldsAt, NoneTo}
+use Rattle.road.specs.Refusals.{numberOf, Fault, Of, None, First, Said, refusal, answer}
+use Rattle.road.specs.workings.Verdicts.{Single, Singles, Decided, Judged, Judges, Tells}
 
 pub of-single : {r : Refusal} {P : Type 0} → Single (Of r P)
 of-single = record { one = λ s t f g. f .is ∙ sym (g .is) }
@@ -58,6 +61,43 @@ number-some Drive e = omega arith
 number-some Lengths e = omega arith
 number-some Room e = omega arith
 number-some Line e = omega arith
+
+-- no two refusals have one number: the table has each at its own
+abbrev table : List Refusal
+table = Sizes ∷ Sizes ∷ Starts ∷ Arcs ∷ K ∷ Order ∷ Set ∷ Overlay ∷ Node ∷ Outside ∷ Drive ∷ Lengths ∷ Room ∷ Line ∷ []
+
+in-table : (r : Refusal) → getD table (numberOf r) Sizes ≡ r
+in-table Sizes = refl
+in-table Starts = refl
+in-table Arcs = refl
+in-table K = refl
+in-table Order = refl
+in-table Set = refl
+in-table Overlay = refl
+in-table Node = refl
+in-table Outside = refl
+in-table Drive = refl
+in-table Lengths = refl
+in-table Room = refl
+in-table Line = refl
+
+pub number-one : (r s : Refusal) → numberOf r ≡ numberOf s → r ≡ s
+number-one r s e = sym (in-table r) ∙ ap (λ (n : ℕ). getD table n Sizes) e ∙ in-table s
+
+-- so what a refusal says is said of no other, and by no answer
+pub refusal-one : (r s : Refusal) → refusal r ≡ refusal s → r ≡ s
+refusal-one r s e = number-one r s (ap (λ (x : Said). x .number) e)
+
+pub refusal-no-answer : (r : Refusal) (values : List ℕ) → refusal r ≡ answer values → ⊥
+refusal-no-answer r values e = number-some r (ap (λ (x : Said). x .number) e)
+
+-- where the fault at a place holds and none before it, it is the first, whatever comes after
+pub first-at : (Fs : List Fault) (i : ℕ) (r : Refusal) → NoneTo Fs i → HoldsAt Fs i r → First Fs r
+first-at (F ∷ Fs) zero r n h = inl h
+first-at (F ∷ Fs) (suc i) r n h = inr (n .0, first-at Fs i r (n .1) h)
+
+pub of-number : {r : Refusal} {P : Type 0} → (s : Refusal) → Of r P s → numberOf s ≡ numberOf r
+of-number s f = ap numberOf (f .is)
 
 -- a verdict is passed or refused, and not both
 pub not-both : {v : Verdict} {r : Refusal} → v ≡ Passed → v ≡ Refused r → ⊥
@@ -111,15 +151,15 @@ module _ {r : Refusal} {P : Type 0} where
   passes n = judged-passed (untold n)
 
 -- a chain of checks
-first-early : (Fs Gs : List Fault) (r : Refusal) → First Fs r → First (Fs ++ Gs) r
+pub first-early : (Fs Gs : List Fault) (r : Refusal) → First Fs r → First (Fs ++ Gs) r
 first-early (F ∷ Fs) Gs r (inl f) = inl f
 first-early (F ∷ Fs) Gs r (inr f) = inr (f .0, first-early Fs Gs r (f .1))
 
-first-late : (Fs Gs : List Fault) (r : Refusal) → None Fs → First Gs r → First (Fs ++ Gs) r
+pub first-late : (Fs Gs : List Fault) (r : Refusal) → None Fs → First Gs r → First (Fs ++ Gs) r
 first-late [] Gs r n f = f
 first-late (F ∷ Fs) Gs r n f = inr (n .0, first-late Fs Gs r (n .1) f)
 
-none-both : (Fs Gs : List Fault) → None Fs → None Gs → None (Fs ++ Gs)
+pub none-both : (Fs Gs : List Fault) → None Fs → None Gs → None (Fs ++ Gs)
 none-both [] Gs n m = m
 none-both (F ∷ Fs) Gs n m = (n .0, none-both Fs Gs (n .1) m)
 
@@ -132,10 +172,25 @@ pub goes-on : (Fs Gs : List Fault) {v w : Verdict} → v ≡ Passed → Judges F
 goes-on Fs Gs e j k =
     record { passed = λ p. none-both Fs Gs (j .passed e) (k .passed p); refused = λ s q. first-late Fs Gs s (j .passed e) (k .refused s q) }
 
+-- the first of a whole chain is the first of its beginning, or none of that holds and it is the first of the rest
+pub first-split : (Fs Gs : List Fault) (r : Refusal) → First (Fs ++ Gs) r → First Fs r ⊎ (None Fs × First Gs r)
+first-split [] Gs r f = inr (tt, f)
+first-split (F ∷ Fs) Gs r (inl f) = inl (inl f)
+first-split (F ∷ Fs) Gs r (inr f) = by (first-split Fs Gs r (f .1))
+  where
+    by : First Fs r ⊎ (None Fs × First Gs r) → First (F ∷ Fs) r ⊎ (None (F ∷ Fs) × First Gs r)
+    by (inl g) = inl (inr (f .0, g))
+    by (inr g) = inr ((f .0, g .0), g .1)
+
 -- none of a whole chain is none of its beginning
 pub none-front : (Fs Gs : List Fault) → None (Fs ++ Gs) → None Fs
 none-front [] Gs n = tt
 none-front (F ∷ Fs) Gs n = (n .0, none-front Fs Gs (n .1))
+
+-- and of its end
+pub none-back : (Fs Gs : List Fault) → None (Fs ++ Gs) → None Gs
+none-back [] Gs n = n
+none-back (F ∷ Fs) Gs n = none-back Fs Gs (n .1)
 
 -- a bool that tells
 pub tells-yes : {P : Type 0} → P → Tells true P

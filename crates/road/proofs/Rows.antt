@@ -1,16 +1,13 @@
 -- Rows: each place has one tail, and well-formedness is that checks 1 to 3 find nothing.
-use mathlib.Core.Path.{_≡_, refl, sym, ap, subst}
-use mathlib.Core.Logic.{_⊎_, inl, inr, _≢_}
-use mathlib.Core.List.{List, [], _∷_}
+use mathlib.Core.Path.{_≡_, ap}
+use mathlib.Core.List.{List}
 use Prim.Native.Nat.{ℕ, zero, suc, _+_, _-_, _≤_, _<_}
-use native.Mathlib.Decide.{decLt, decLe, ℕ-discrete, le-ind}
+use native.Mathlib.Decide.{decLt, decLe, le-ind}
 use native.Mathlib.Numerals.{add-one}
 use native.Mathlib.Omega.{arith}
 use lib.ListN.{length, getD, List·getD-eq-default}
-use Rattle.paths.specs.Graphs.{Proper, Lighter}
-use Rattle.road.specs.declared.Limits.{Limits}
-use Rattle.road.specs.declared.Refusal.{Refusal}
-use Rattle.road.specs.Roads.{nodesOf, Owns, Arc, road, Sized, Rising, Listed, Sorted, Sound}
+use Rattle.road.specs.Roads.{nodesOf, Owns}
+use Rattle.road.specs.workings.Sound.{Rising}
 
 -- a place that a tail owns is the place of a node
 pub owner-node : (starts : List ℕ) (u p : ℕ) → Owns starts u p → u < nodesOf starts

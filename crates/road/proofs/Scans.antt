@@ -1,9 +1,8 @@
 -- Check 3 on its way: one arc, one row, all rows.
-use mathlib.Core.Path.{_≡_, refl, sym, ap, subst, _∙_}
-use mathlib.Core.Logic.{_⊎_, inl, inr, _≢_}
-use mathlib.Core.List.{List, [], _∷_}
-use Prim.Native.Nat.{ℕ, suc, _+_, _-_, _≤_, _<_}
-use native.Mathlib.Decide.{ℕ-discrete}
+use mathlib.Core.Path.{_≡_, ap, subst, _∙_}
+use mathlib.Core.Logic.{inl, inr, _≢_}
+use mathlib.Core.List.{List}
+use Prim.Native.Nat.{ℕ, _+_, _-_, _≤_, _<_}
 use native.Mathlib.Omega.{arith}
 use borrow.Author.Count.{below-more}
 use lib.ListN.{length, getD}
@@ -11,12 +10,12 @@ use Rattle.road.specs.declared.Limits.{Limits}
 use Rattle.road.specs.declared.Refusal.{Refusal}
 use Rattle.road.specs.declared.Refusal.the-variants.{Arcs}
 use Rattle.road.specs.Refusals.{None, First}
-use Rattle.road.specs.Roads.{nodesOf, Owns, Rising, Listed}
+use Rattle.road.specs.Roads.{nodesOf, Owns}
+use Rattle.road.specs.workings.Sound.{Listed}
 use Rattle.road.specs.Faults.{HeadOutside, HeadIsTail, HeadFalls, TooHeavy, arcFaults, ArcFault}
-use Rattle.road.specs.Scans.{Placed, ClearTo, Clear}
+use Rattle.road.specs.workings.Scans.{Placed, ClearTo}
 use Rattle.road.proofs.Refusals.{first-not-none, told, untold}
-use Rattle.road.proofs.Rows.{owner-one, owned-listed, starts-rise}
-use Rattle.road.proofs.Faults.{arc-clear}
+use Rattle.road.proofs.Rows.{owner-one, owned-listed}
 
 module _ (starts heads weights : List ℕ) (tail p : ℕ) (g : Placed starts heads weights tail p) where
   own-tail : (u : ℕ) → Owns starts u p → u ≡ tail

@@ -8,7 +8,8 @@ use Rattle.road.specs.Chains.{coverFaults, roadAndSetFaults, loneSetFaul
 use Rattle.road.specs.Faults.{graphFaults, kFault, orderFault, setFault}
 use Rattle.road.specs.Drives.{driveFault}
 use Rattle.road.specs.Limits.{roadLimits}
-use Rattle.road.specs.Refusals.{Fault, Singles, Judges}
+use Rattle.road.specs.Refusals.{Fault}
+use Rattle.road.specs.workings.Verdicts.{Singles, Judges}
 use Rattle.road.specs.Roads.{nodesOf}
 use Rattle.road.proofs.Faults.{graph-singles}
 use Rattle.road.proofs.Refusals.{of-single, judges-one}

@@ -3,8 +3,6 @@ use mathlib.Core.Path.{_≡_}
 use mathlib.Core.List.{List}
 use Prim.Native.Nat.{ℕ, _+_, _≤_, _<_}
 use lib.ListN.{length, getD}
-use Rattle.road.specs.declared.Verdict.{Verdict}
-use Rattle.road.specs.declared.Verdict.the-variants.{Passed, Refused}
 use Rattle.road.specs.declared.Refusal.the-variants.{Drive}
 use Rattle.road.specs.Limits.{mostDrive}
 use Rattle.road.specs.Refusals.{Fault, Of}
@@ -26,13 +24,3 @@ pub data BadDrive (starts heads drive : List ℕ) : Type 0 where
 
 abbrev pub driveFault : List ℕ → List ℕ → List ℕ → Fault
 driveFault starts heads drive = Of Drive (BadDrive starts heads drive)
-
--- the first i positions are without fault
-pub record Entered (starts heads drive : List ℕ) (i : ℕ) : Type 0 where
-  pub inside : (j : ℕ) → j < i → getD drive j 0 < nodesOf starts
-  pub joins : (j : ℕ) → j + 1 < i → Joined starts heads (getD drive j 0) (getD drive (j + 1) 0)
-
--- a verdict on position i, after those before it
-abbrev pub Judges-position : List ℕ → List ℕ → List ℕ → ℕ → Verdict → Type 0
-Judges-position starts heads drive i Passed = Entered starts heads drive (i + 1)
-Judges-position starts heads drive i (Refused r) = driveFault starts heads drive r

@@ -3,16 +3,19 @@ use crate::Limits;
 use crate::Refusal;
 use crate::Verdict;
 use crate::counts::wide;
+use crate::spans::row;
 ghost use Prim.Native.Nat.{_<_};
+ghost use Rattle.lent.specs.Slices.{before};
 ghost use Rattle.road.specs.Faults.{ArcFault, arcFaults, HeadFalls};
-ghost use Rattle.road.specs.Refusals.{Judged, Judges, Tells};
-ghost use Rattle.road.specs.Roads.{Listed, nodesOf};
-ghost use Rattle.road.specs.Scans.{Clear, Placed, Scanned};
+ghost use Rattle.road.specs.workings.Verdicts.{Judged, Judges, Tells};
+ghost use Rattle.road.specs.workings.Sound.{Listed};
+ghost use Rattle.road.specs.Roads.{nodesOf};
+ghost use Rattle.road.specs.workings.Scans.{Clear, Placed, Scanned};
 
 // Whether the head at place p is not above that of the arc before it of the same tail.
 fn head_falls(starts: &[u32], heads: &[u32], weights: &[u32], tail: usize, p: usize) -> bool
     requires { ⌜ Placed (now starts) (now heads) (now weights) tail p ⌝ }
-    ensures { λ r. ⌜ Tells r (HeadFalls (now (starts .entry)) (now (heads .entry)) p) ⌝ }
+    ensures { λ r. ⌜ Tells r (HeadFalls (before starts) (before heads) p) ⌝ }
 {
     if p <= wide(starts[tail]) {
         return false;
@@ -33,7 +36,7 @@ fn check_arc(
     p: usize,
 ) -> Verdict
     requires { ⌜ Placed (now starts) (now heads) (now weights) tail p ⌝ }
-    ensures { λ r. ⌜ Judges (arcFaults limits (now (starts .entry)) (now (heads .entry)) (now (weights .entry)) p) r ⌝ }
+    ensures { λ r. ⌜ Judges (arcFaults limits (before starts) (before heads) (before weights) p) r ⌝ }
 {
     let head = wide(heads[p]);
     let most = limits.weight;
@@ -57,10 +60,11 @@ fn check_row(starts: &[u32], heads: &[u32], weights: &[u32], limits: Limits, tai
     requires { ⌜ Listed (now starts) (now heads) (now weights) ⌝ }
     requires { ⌜ tail < nodesOf (now starts) ⌝ }
     requires { ⌜ Clear limits (now starts) (now heads) (now weights) tail ⌝ }
-    ensures { λ r. ⌜ Scanned limits (now (starts .entry)) (now (heads .entry)) (now (weights .entry)) tail r ⌝ }
+    ensures { λ r. ⌜ Scanned limits (before starts) (before heads) (before weights) tail r ⌝ }
 {
-    let end = wide(starts[tail + 1]);
-    let mut p = wide(starts[tail]);
+    let arcs = row(starts, tail);
+    let end = arcs.end;
+    let mut p = arcs.first;
     while p < end {
         let found = check_arc(starts, heads, weights, limits, tail, p);
         let Verdict::Passed = found else {
@@ -74,7 +78,7 @@ fn check_row(starts: &[u32], heads: &[u32], weights: &[u32], limits: Limits, tai
 // Check 3, under either limits.
 pub fn check_arcs(starts: &[u32], heads: &[u32], weights: &[u32], limits: Limits) -> Verdict
     requires { ⌜ Listed (now starts) (now heads) (now weights) ⌝ }
-    ensures { λ r. ⌜ Judged (ArcFault limits (now (starts .entry)) (now (heads .entry)) (now (weights .entry))) r ⌝ }
+    ensures { λ r. ⌜ Judged (ArcFault limits (before starts) (before heads) (before weights)) r ⌝ }
 {
     let mut tail = 0;
     while tail < starts.len() - 1 {

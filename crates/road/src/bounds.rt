@@ -7,7 +7,7 @@ use crate::Verdict;
 ghost use mathlib.Core.Path.{_≡_};
 ghost use Rattle.road.specs.Faults.{kFault};
 ghost use Rattle.road.specs.Limits.{roadLimits, overlayLimits};
-ghost use Rattle.road.specs.Refusals.{Judged};
+ghost use Rattle.road.specs.workings.Verdicts.{Judged};
 
 pub fn road_limits() -> Limits
     ensures { λ r. ⌜ r ≡ roadLimits ⌝ }

@@ -12,13 +12,14 @@ use crate::lengths::check_sizes;
 use crate::order::check_order;
 use crate::sets::check_set;
 use crate::starts::check_starts;
+ghost use Rattle.lent.specs.Slices.{before};
 ghost use Rattle.road.specs.Chains.{coverFaults, roadAndSetFaults, loneSetFaults, driveFaults};
 ghost use Rattle.road.specs.Faults.{graphFaults};
-ghost use Rattle.road.specs.Refusals.{Judges};
+ghost use Rattle.road.specs.workings.Verdicts.{Judges};
 
 // Checks 1, 2 and 3, under either limits.
 pub fn check_graph(starts: &[u32], heads: &[u32], weights: &[u32], limits: Limits) -> Verdict
-    ensures { λ r. ⌜ Judges (graphFaults limits (now (starts .entry)) (now (heads .entry)) (now (weights .entry))) r ⌝ }
+    ensures { λ r. ⌜ Judges (graphFaults limits (before starts) (before heads) (before weights)) r ⌝ }
 {
     let sizes = check_sizes(starts, heads, weights, limits);
     let Verdict::Passed = sizes else {
@@ -39,7 +40,7 @@ pub fn check_cover_input(
     k: NodeCount,
     order: &[u32],
 ) -> Verdict
-    ensures { λ r. ⌜ Judges (coverFaults (now (starts .entry)) (now (heads .entry)) (now (weights .entry)) (k .0) (now (order .entry))) r ⌝ }
+    ensures { λ r. ⌜ Judges (coverFaults (before starts) (before heads) (before weights) (k .0) (before order)) r ⌝ }
 {
     let graph = check_graph(starts, heads, weights, road_limits());
     let Verdict::Passed = graph else {
@@ -54,7 +55,7 @@ pub fn check_cover_input(
 
 // What the overlay call and the any-pair question check first: 1 2 3 6.
 pub fn check_road_and_set(starts: &[u32], heads: &[u32], weights: &[u32], set: &[u8]) -> Verdict
-    ensures { λ r. ⌜ Judges (roadAndSetFaults (now (starts .entry)) (now (heads .entry)) (now (weights .entry)) (now (set .entry))) r ⌝ }
+    ensures { λ r. ⌜ Judges (roadAndSetFaults (before starts) (before heads) (before weights) (before set)) r ⌝ }
 {
     let graph = check_graph(starts, heads, weights, road_limits());
     let Verdict::Passed = graph else {
@@ -65,7 +66,7 @@ pub fn check_road_and_set(starts: &[u32], heads: &[u32], weights: &[u32], set: &
 
 // What the handheld question checks first: 1 6, n being the set's length.
 pub fn check_lone_set(set: &[u8]) -> Verdict
-    ensures { λ r. ⌜ Judges (loneSetFaults (now (set .entry))) r ⌝ }
+    ensures { λ r. ⌜ Judges (loneSetFaults (before set)) r ⌝ }
 {
     let size = check_set_size(set);
     let Verdict::Passed = size else {
@@ -82,7 +83,7 @@ pub fn check_drive_input(
     set: &[u8],
     drive: &[u32],
 ) -> Verdict
-    ensures { λ r. ⌜ Judges (driveFaults (now (starts .entry)) (now (heads .entry)) (now (weights .entry)) (now (set .entry)) (now (drive .entry))) r ⌝ }
+    ensures { λ r. ⌜ Judges (driveFaults (before starts) (before heads) (before weights) (before set) (before drive)) r ⌝ }
 {
     let first = check_road_and_set(starts, heads, weights, set);
     let Verdict::Passed = first else {

@@ -3,6 +3,7 @@ use crate::ArcCount;
 use crate::NodeCount;
 use crate::Refusal;
 ghost use mathlib.Core.Path.{_≡_};
+ghost use Rattle.lent.specs.Slices.{before};
 ghost use Rattle.paths.specs.Graphs.{arcsOf};
 ghost use Rattle.road.specs.Refusals.{numberOf};
 ghost use Rattle.road.specs.Roads.{nodesOf};
@@ -16,7 +17,7 @@ pub fn wide(x: u32) -> usize
 
 // The number of nodes of the graph with these starts.
 pub fn node_count(starts: &[u32]) -> NodeCount
-    ensures { λ r. ⌜ r .0 ≡ nodesOf (now (starts .entry)) ⌝ }
+    ensures { λ r. ⌜ r .0 ≡ nodesOf (before starts) ⌝ }
 {
     if starts.len() == 0 {
         return NodeCount(0);

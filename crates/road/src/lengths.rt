@@ -2,12 +2,13 @@
 use crate::Limits;
 use crate::Refusal;
 use crate::Verdict;
+ghost use Rattle.lent.specs.Slices.{before};
 ghost use Rattle.road.specs.Faults.{sizes, setSize, lengthFault};
-ghost use Rattle.road.specs.Refusals.{Judged};
+ghost use Rattle.road.specs.workings.Verdicts.{Judged};
 
 // Check 1, of a graph's three slices.
 pub fn check_sizes(starts: &[u32], heads: &[u32], weights: &[u32], limits: Limits) -> Verdict
-    ensures { λ r. ⌜ Judged (sizes limits (now (starts .entry)) (now (heads .entry)) (now (weights .entry))) r ⌝ }
+    ensures { λ r. ⌜ Judged (sizes limits (before starts) (before heads) (before weights)) r ⌝ }
 {
     let most = limits.arcs.0;
     if starts.len() < 2 {
@@ -27,7 +28,7 @@ pub fn check_sizes(starts: &[u32], heads: &[u32], weights: &[u32], limits: Limit
 
 // Check 1, of a set that is lent without a road graph.
 pub fn check_set_size(set: &[u8]) -> Verdict
-    ensures { λ r. ⌜ Judged (setSize (now (set .entry))) r ⌝ }
+    ensures { λ r. ⌜ Judged (setSize (before set)) r ⌝ }
 {
     if set.len() == 0 {
         return Verdict::Refused(Refusal::Sizes);

@@ -11,6 +11,7 @@ mod filling;
 mod lengths;
 mod order;
 mod sets;
+mod spans;
 mod starts;
 
 pub use arcs::check_arcs;
@@ -37,6 +38,7 @@ pub use order::check_order;
 pub use sets::check_in_set;
 pub use sets::check_nodes;
 pub use sets::check_set;
+pub use spans::row;
 pub use starts::check_starts;
 
 // A count of nodes.
@@ -45,6 +47,12 @@ pub struct NodeCount(pub usize);
 // A count of arcs. It is never added to a count of nodes nor compared with one: `arcs_on_path`
 // converts.
 pub struct ArcCount(pub usize);
+
+// The places from `first` up to, but not including, `end`.
+pub struct Span {
+    pub first: usize,
+    pub end: usize,
+}
 
 // What a graph may have at most: the road's limits, or the overlay's.
 pub struct Limits {

@@ -5,12 +5,13 @@ use crate::Verdict;
 use crate::counts::wide;
 ghost use Prim.Native.Nat.{_<_};
 ghost use lib.ListN.{length};
+ghost use Rattle.lent.specs.Slices.{before};
 ghost use Rattle.road.specs.Faults.{setFault, nodeFault, outsideFault};
-ghost use Rattle.road.specs.Refusals.{Judged};
+ghost use Rattle.road.specs.workings.Verdicts.{Judged};
 
 // Check 6.
 pub fn check_set(n: NodeCount, set: &[u8]) -> Verdict
-    ensures { λ r. ⌜ Judged (setFault (n .0) (now (set .entry))) r ⌝ }
+    ensures { λ r. ⌜ Judged (setFault (n .0) (before set)) r ⌝ }
 {
     if set.len() != n.0 {
         return Verdict::Refused(Refusal::Set);
@@ -42,7 +43,7 @@ pub fn check_nodes(n: NodeCount, from: u32, to: u32) -> Verdict
 pub fn check_in_set(set: &[u8], from: u32, to: u32) -> Verdict
     requires { ⌜ from < length (now set) ⌝ }
     requires { ⌜ to < length (now set) ⌝ }
-    ensures { λ r. ⌜ Judged (outsideFault (now (set .entry)) from to) r ⌝ }
+    ensures { λ r. ⌜ Judged (outsideFault (before set) from to) r ⌝ }
 {
     if set[wide(from)] != 1 {
         return Verdict::Refused(Refusal::Outside);

@@ -4,12 +4,13 @@ use crate::Verdict;
 use crate::counts::wide;
 ghost use Prim.Native.Nat.{_≤_};
 ghost use lib.ListN.{length};
+ghost use Rattle.lent.specs.Slices.{before};
 ghost use Rattle.road.specs.Faults.{startsFault};
-ghost use Rattle.road.specs.Refusals.{Judged};
+ghost use Rattle.road.specs.workings.Verdicts.{Judged};
 
 pub fn check_starts(starts: &[u32], heads: &[u32]) -> Verdict
     requires { ⌜ 2 ≤ length (now starts) ⌝ }
-    ensures { λ r. ⌜ Judged (startsFault (now (starts .entry)) (now (heads .entry))) r ⌝ }
+    ensures { λ r. ⌜ Judged (startsFault (before starts) (before heads)) r ⌝ }
 {
     if starts[0] != 0 {
         return Verdict::Refused(Refusal::Starts);

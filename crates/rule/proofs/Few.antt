@@ -1,31 +1,18 @@
 -- Where too few nodes are dropped, a node is not needed: a path of k nodes has k - 1 others.
-use mathlib.Core.Path.{_≡_, refl, sym, ap, subst, _∙_}
-use mathlib.Core.Logic.{_≢_, inl, inr}
+use mathlib.Core.Path.{_≡_, sym, ap, subst, _∙_}
 use mathlib.Core.List.{List, [], _∷_}
-use Prim.Native.Nat.{ℕ, zero, suc, _+_, _≤_, _<_}
+use Prim.Native.Nat.{ℕ, _+_, _≤_, _<_}
 use native.Mathlib.Decide.{ℕ-discrete}
 use native.Mathlib.Omega.{arith}
-use borrow.Author.Tests.{eq-eqb}
-use lib.Dec.{eqb}
-use lib.ListN.{length, getD, set, length-set}
+use lib.ListN.{length, set, length-set}
 use lib.Seq.{getD-set-same, getD-set-other}
 use Rattle.paths.specs.Graphs.{Graph, Proper}
 use Rattle.paths.specs.Lists.{Mem, Different, Each}
 use Rattle.paths.proofs.Lists.{each-mem, mem-each}
 use Rattle.paths.proofs.Weights.{nodes-of}
-use Rattle.road.specs.Counting.{bit, times}
+use Rattle.road.specs.Counting.{times}
+use Rattle.road.proofs.Counting.{times-fewer, times-set}
 use Rattle.rule.specs.Rule.{Dropped, Needed, PathOf}
-
--- a zero that is taken away, and one that comes at most
-fewer-zeros : (l : List ℕ) (i : ℕ) → i < length l → getD l i 0 ≡ 0 → times 0 (set l i 1) + 1 ≡ times 0 l
-fewer-zeros [] i h e = absurd (omega arith)
-fewer-zeros (x ∷ l) zero h e = omega (arith, ap bit (eq-eqb x 0 e))
-fewer-zeros (x ∷ l) (suc i) h e = omega (arith, fewer-zeros l i (omega arith) e)
-
-more-zeros : (l : List ℕ) (i : ℕ) → times 0 (set l i 0) ≤ times 0 l + 1
-more-zeros [] i = omega arith
-more-zeros (x ∷ l) zero = omega arith
-more-zeros (x ∷ l) (suc i) = omega (arith, more-zeros l i)
 
 -- different nodes that are dropped are no more than the zeros
 abbrev Zero : List ℕ → ℕ → Type 0
@@ -34,7 +21,7 @@ Zero cover x = (x < length cover) × Dropped cover x
 zeros-enough : (l cover : List ℕ) → Different l → Each (Zero cover) l → length l ≤ times 0 cover
 zeros-enough [] cover d e = omega arith
 zeros-enough (x ∷ l) cover d e =
-    omega (arith, zeros-enough l (set cover x 1) (d .1) (mem-each (Zero (set cover x 1)) l still), fewer-zeros cover x (e .0 .0) (e .0 .1))
+    omega (arith, zeros-enough l (set cover x 1) (d .1) (mem-each (Zero (set cover x 1)) l still), times-fewer cover x 1 0 (e .0 .0) (e .0 .1) (λ z. omega arith))
   where
     still : (y : ℕ) → Mem y l → Zero (set cover x 1) y
     still y m =
@@ -53,7 +40,7 @@ module _ (G : Graph) (p : Proper G) (k : ℕ) (cover : List ℕ) (v : ℕ) (long
         arith,
         size,
         zeros-enough (c .first ∷ c .after) (set cover v 0) (c .path .different) (mem-each (Zero (set cover v 0)) (c .first ∷ c .after) dropped),
-        more-zeros cover v,
+        times-set cover v 0 0 node,
       )
     where
       by : (x : ℕ) → Mem x (n .path) → Dec (x ≡ v) → Dropped (set cover v 0) x

@@ -9,11 +9,11 @@ use native.Mathlib.Omega.{arith}
 use lib.ListN
 use lib.ListN.{length, getD, set, replicate, length-set, length-replicate, getD-replicate, List·getD-eq-default, drop-of-length-le}
 use lib.Seq.{getD-set-same, getD-set-other, drop-cons, ext-getD}
-use Rattle.paths.specs.Lists.{Mem, Each}
-use Rattle.paths.proofs.Lists.{each-mem}
+use Rattle.paths.specs.Lists.{Mem}
 use Rattle.road.specs.Faults.{Permutation, InSet}
-use Rattle.road.proofs.Zeros.{zeros-at}
-use Rattle.rule.specs.Rule.{Dropped, Needed, Prunes, done, keep, drop, Pruned, Took, kept, dropped}
+use Rattle.road.proofs.Filled.{zeros-at}
+use Rattle.rule.specs.Rule.{Dropped, Needed, Prunes, done, keep, drop, Pruned}
+use Rattle.rule.specs.workings.Taking.{Took, kept, dropped}
 use Rattle.rule.specs.Promise.{Covers, Alone, Tight}
 
 -- each byte is 0 or 1

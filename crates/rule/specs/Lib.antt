@@ -1,3 +1,4 @@
 -- The pruning rule, and what a cover promises.
 pub mod Rule
 pub mod Promise
+pub mod workings

@@ -37,8 +37,3 @@ pub record PathOf (G : Graph) (k : ℕ) (list : List ℕ) : Type 0 where
   pub whole : list ≡ first ∷ after
   pub path : IsPath G first after last weight
   pub nodes : length list ≡ k
-
--- v was taken: it is kept because it is needed, or dropped because it is not
-pub data Took (Counts : List ℕ → Type 0) (v : ℕ) (before after : List ℕ) : Type 0 where
-  kept : Needed Counts before v → after ≡ before → Took Counts v before after
-  dropped : (Needed Counts before v → ⊥) → after ≡ set before v 0 → Took Counts v before after

@@ -1,4 +1,5 @@
 -- The laws of the queue and of the search.
-pub mod Zeros
+pub mod Stores
 pub mod Heaps
 pub mod States
+pub mod Forbidden

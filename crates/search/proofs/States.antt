@@ -3,24 +3,26 @@ use mathlib.Core.Path.{_≡_, refl, sym, ap, subst, subst₂, _∙_}
 use mathlib.Core.Logic.{_⊎_, inl, inr, ⊎-elim, _≢_}
 use mathlib.Core.List.{List, [], _∷_}
 use Prim.Native.Nat.{ℕ, zero, suc, _+_, _-_, _*_, _≤_, _<_}
-use native.Mathlib.Decide.{decLt, ℕ-discrete}
+use native.Mathlib.Decide.{ℕ-discrete}
 use native.Mathlib.Nat.{mul-le-mul-right}
 use native.Mathlib.Omega.{arith}
 use lib.ListN.{length, getD, set, replicate, length-set, length-replicate}
 use lib.Seq.{getD-set-same, getD-set-other, ext-getD}
-use Rattle.paths.specs.Graphs.{Graph, Along, stop, step, IsPath, Reaches, Walks}
-use Rattle.paths.specs.Least.{Told, Least, Empty}
+use Rattle.paths.specs.Graphs.{Along, stop, step, Reaches, Walks}
+use Rattle.paths.specs.Least.{Told}
 use Rattle.paths.specs.Lists.{Inside}
 use Rattle.paths.proofs.Ways.{walks-joined, path-within, weighing}
 use Rattle.road.specs.Limits.{overlayLimits, mostNodes}
-use Rattle.road.specs.Roads.{nodesOf, Owns, Arc, road, Sound}
+use Rattle.road.specs.Roads.{nodesOf, Owns, Arc, road}
+use Rattle.road.specs.workings.Sound.{Sound}
 use Rattle.road.proofs.Rows.{owned-listed}
-use Rattle.road.proofs.Zeros.{zeros-at}
-use Rattle.search.specs.Queue.{zeros, Heap, Waits, Sooner, With, Without}
-use Rattle.search.specs.Rows.{Free, Row, Asks}
-use Rattle.search.specs.States.{Open, Reached, State, Closed, Labelled, All, Upto, Offered, refused, taken, heavy, mass, Going, Leaves}
+use Rattle.road.proofs.Filled.{zeros-at}
+use Rattle.search.specs.workings.Queue.{Heap, Waits, Sooner, With, Without}
+use Rattle.search.specs.workings.Rows.{Free, Row, Asks, labelAt}
+use Rattle.search.specs.workings.States.{Open, Reached, State, Closed, Labelled, All, Upto, Offered, refused, taken, heavy, mass, Going, Leaves}
 use Rattle.search.proofs.Heaps.{waits-node}
-use Rattle.search.proofs.Zeros.{zeros-short, one-fewer, as-many}
+use Rattle.road.proofs.Counting.{times-fewer, times-kept, times-each, times-all}
+use Rattle.road.specs.Counting.{times}
 
 mass-set : (l : List ℕ) (i v : ℕ) → i < length l → mass (set l i v) + heavy (getD l i 0) ≡ mass l + heavy v
 mass-set [] i v h = absurd (omega arith)
@@ -36,17 +38,17 @@ heavy-some zero n = absurd (n refl)
 heavy-some (suc x) n = refl
 
 -- a label that is taken weighs less than what was there
-pub mass-falls : (labels : List ℕ) (v x : ℕ) → v < length labels → x ≢ 0 → x < 20000000000000 → Sooner x (getD labels v 0) → mass (set labels v x) + 1 ≤ mass labels
-mass-falls labels v x h n b s = by s (ℕ-discrete (getD labels v 0) 0)
+pub mass-falls : (labels : List ℕ) (v x : ℕ) → v < length labels → x ≢ 0 → x < 20000000000000 → Sooner x (labelAt labels v) → mass (set labels v x) + 1 ≤ mass labels
+mass-falls labels v x h n b s = by s (ℕ-discrete (labelAt labels v) 0)
   where
-    by : Sooner x (getD labels v 0) → Dec (getD labels v 0 ≡ 0) → mass (set labels v x) + 1 ≤ mass labels
-    by t (yes e) = omega (arith, mass-set labels v x h, heavy-none (getD labels v 0) e, heavy-some x n)
+    by : Sooner x (labelAt labels v) → Dec (labelAt labels v ≡ 0) → mass (set labels v x) + 1 ≤ mass labels
+    by t (yes e) = omega (arith, mass-set labels v x h, heavy-none (labelAt labels v) e, heavy-some x n)
     by (inl e) (no d) = absurd (d e)
-    by (inr l) (no d) = omega (arith, mass-set labels v x h, heavy-some (getD labels v 0) d, heavy-some x n)
+    by (inr l) (no d) = omega (arith, mass-set labels v x h, heavy-some (labelAt labels v) d, heavy-some x n)
 
 module _ (starts heads weights blocked : List ℕ) (source : ℕ) (labels : List ℕ) (g : State starts heads weights blocked source labels) where
   -- a label is small, and so is one more step
-  pub label-small : (v : ℕ) → getD labels v 0 ≤ 16773120000001
+  pub label-small : (v : ℕ) → labelAt labels v ≤ 16773120000001
   label-small v =
       omega (arith, g .small v, mul-le-mul-right 4095000000 nodes)
     where
@@ -54,76 +56,76 @@ module _ (starts heads weights blocked : List ℕ) (source : ℕ) (labels : List
       nodes = omega (arith, g .sound-graph .sized .most)
 
   -- the label that an arc offers
-  module _ (u v w : ℕ) (a : Arc starts heads weights u v w) (some : getD labels u 0 ≢ 0) (o : Open blocked source u) where
+  module _ (u v w : ℕ) (a : Arc starts heads weights u v w) (some : labelAt labels u ≢ 0) (o : Open blocked source u) where
     light : w ≤ 4095000000
     light = omega (arith, g .sound-graph .light (a .place) (a .listed), a .weight)
 
     one-step : Walks (road starts heads weights) (Free blocked) u v w
     one-step = record { after = v ∷ []; along = weighing (omega arith) (step a stop); inner = tt }
 
-    pub offered-walk : (d : ℕ) → getD labels u 0 + w ≡ suc d → Walks (road starts heads weights) (Free blocked) source v d
+    pub offered-walk : (d : ℕ) → labelAt labels u + w ≡ suc d → Walks (road starts heads weights) (Free blocked) source v d
     offered-walk d e = by o
       where
-        at : Walks (road starts heads weights) (Free blocked) source u (getD labels u 0 - 1)
-        at = g .sound u (getD labels u 0 - 1) (omega (arith, some))
+        at : Walks (road starts heads weights) (Free blocked) source u (labelAt labels u - 1)
+        at = g .sound u (labelAt labels u - 1) (omega (arith, some))
 
         by : Open blocked source u → Walks (road starts heads weights) (Free blocked) source v d
         by (inl s) =
-            let base = ap (λ (x : ℕ). getD labels x 0) s in
+            let base = ap (λ (x : ℕ). labelAt labels x) s in
             let same : w ≡ d = omega (arith, g .start) in
             subst₂ (λ (x y : ℕ). Walks (road starts heads weights) (Free blocked) x v y) s same one-step
         by (inr f) =
-            let same : getD labels u 0 - 1 + w ≡ d = omega (arith, some) in
+            let same : labelAt labels u - 1 + w ≡ d = omega (arith, some) in
             subst (Walks (road starts heads weights) (Free blocked) source v) same (walks-joined at f one-step)
 
     pub offered-node : v < length labels
     offered-node = omega (arith, g .long, g .sound-graph .inside (a .place) (a .listed), a .head)
 
-    pub offered-small : getD labels u 0 + w < 20000000000000
+    pub offered-small : labelAt labels u + w < 20000000000000
     offered-small = omega (arith, label-small u, light)
 
     -- a label that is taken keeps the state
-    pub taken-state : Sooner (getD labels u 0 + w) (getD labels v 0) → State starts heads weights blocked source (set labels v (getD labels u 0 + w))
+    pub taken-state : Sooner (labelAt labels u + w) (labelAt labels v) → State starts heads weights blocked source (set labels v (labelAt labels u + w))
     taken-state s =
         record {
           sound-graph = g .sound-graph;
           node = g .node;
-          long = length-set labels v (getD labels u 0 + w) ∙ g .long;
+          long = length-set labels v (labelAt labels u + w) ∙ g .long;
           start = start-by (ℕ-discrete source v);
           sound = λ x d e. sound-by x d e (ℕ-discrete x v);
           small = λ x. small-by x (ℕ-discrete x v) s;
         }
       where
-        start-by : Dec (source ≡ v) → getD (set labels v (getD labels u 0 + w)) source 0 ≡ 1
-        start-by (no n) = getD-set-other labels v source (getD labels u 0 + w) 0 n ∙ g .start
-        start-by (yes e) = absurd (⊎-elim (λ z. omega (arith, ap (λ (x : ℕ). getD labels x 0) e, g .start)) (λ l. omega (arith, ap (λ (x : ℕ). getD labels x 0) e, g .start, some)) s)
+        start-by : Dec (source ≡ v) → labelAt (set labels v (labelAt labels u + w)) source ≡ 1
+        start-by (no n) = getD-set-other labels v source (labelAt labels u + w) 0 n ∙ g .start
+        start-by (yes e) = absurd (⊎-elim (λ z. omega (arith, ap (λ (x : ℕ). labelAt labels x) e, g .start)) (λ l. omega (arith, ap (λ (x : ℕ). labelAt labels x) e, g .start, some)) s)
 
-        sound-by : (x d : ℕ) → getD (set labels v (getD labels u 0 + w)) x 0 ≡ suc d → Dec (x ≡ v) → Walks (road starts heads weights) (Free blocked) source x d
+        sound-by : (x d : ℕ) → labelAt (set labels v (labelAt labels u + w)) x ≡ suc d → Dec (x ≡ v) → Walks (road starts heads weights) (Free blocked) source x d
         sound-by x d e (yes q) =
             subst (λ (y : ℕ). Walks (road starts heads weights) (Free blocked) source y d) (sym q)
-            (offered-walk d (sym (ap (λ (y : ℕ). getD (set labels v (getD labels u 0 + w)) y 0) q ∙ getD-set-same labels v (getD labels u 0 + w) 0 offered-node) ∙ e))
-        sound-by x d e (no n) = g .sound x d (sym (getD-set-other labels v x (getD labels u 0 + w) 0 n) ∙ e)
+            (offered-walk d (sym (ap (λ (y : ℕ). labelAt (set labels v (labelAt labels u + w)) y) q ∙ getD-set-same labels v (labelAt labels u + w) 0 offered-node) ∙ e))
+        sound-by x d e (no n) = g .sound x d (sym (getD-set-other labels v x (labelAt labels u + w) 0 n) ∙ e)
 
-        new-label : (x : ℕ) → x ≡ v → getD (set labels v (getD labels u 0 + w)) x 0 ≡ getD labels u 0 + w
-        new-label x q = ap (λ (y : ℕ). getD (set labels v (getD labels u 0 + w)) y 0) q ∙ getD-set-same labels v (getD labels u 0 + w) 0 offered-node
+        new-label : (x : ℕ) → x ≡ v → labelAt (set labels v (labelAt labels u + w)) x ≡ labelAt labels u + w
+        new-label x q = ap (λ (y : ℕ). labelAt (set labels v (labelAt labels u + w)) y) q ∙ getD-set-same labels v (labelAt labels u + w) 0 offered-node
 
-        small-by : (x : ℕ) → Dec (x ≡ v) → Sooner (getD labels u 0 + w) (getD labels v 0) → getD (set labels v (getD labels u 0 + w)) x 0 + zeros (set labels v (getD labels u 0 + w)) * 4095000000 ≤ 1 + nodesOf starts * 4095000000
+        small-by : (x : ℕ) → Dec (x ≡ v) → Sooner (labelAt labels u + w) (labelAt labels v) → labelAt (set labels v (labelAt labels u + w)) x + times 0 (set labels v (labelAt labels u + w)) * 4095000000 ≤ 1 + nodesOf starts * 4095000000
         small-by x d (inl z) = by d
           where
-            fewer : zeros (set labels v (getD labels u 0 + w)) + 1 ≡ zeros labels
-            fewer = one-fewer labels v (getD labels u 0 + w) offered-node z (λ k. omega (arith, some))
+            fewer : times 0 (set labels v (labelAt labels u + w)) + 1 ≡ times 0 labels
+            fewer = times-fewer labels v (labelAt labels u + w) 0 offered-node z (λ k. omega (arith, some))
 
-            by : Dec (x ≡ v) → getD (set labels v (getD labels u 0 + w)) x 0 + zeros (set labels v (getD labels u 0 + w)) * 4095000000 ≤ 1 + nodesOf starts * 4095000000
+            by : Dec (x ≡ v) → labelAt (set labels v (labelAt labels u + w)) x + times 0 (set labels v (labelAt labels u + w)) * 4095000000 ≤ 1 + nodesOf starts * 4095000000
             by (yes q) = omega (arith, new-label x q, fewer, g .small u, light)
-            by (no n) = omega (arith, getD-set-other labels v x (getD labels u 0 + w) 0 n, fewer, g .small x)
-        small-by x d (inr l) = by d (ℕ-discrete (getD labels v 0) 0)
+            by (no n) = omega (arith, getD-set-other labels v x (labelAt labels u + w) 0 n, fewer, g .small x)
+        small-by x d (inr l) = by d (ℕ-discrete (labelAt labels v) 0)
           where
-            by : Dec (x ≡ v) → Dec (getD labels v 0 ≡ 0) → getD (set labels v (getD labels u 0 + w)) x 0 + zeros (set labels v (getD labels u 0 + w)) * 4095000000 ≤ 1 + nodesOf starts * 4095000000
+            by : Dec (x ≡ v) → Dec (labelAt labels v ≡ 0) → labelAt (set labels v (labelAt labels u + w)) x + times 0 (set labels v (labelAt labels u + w)) * 4095000000 ≤ 1 + nodesOf starts * 4095000000
             by e (yes z) = absurd (omega arith)
-            by (yes q) (no k) = omega (arith, new-label x q, as-many labels v (getD labels u 0 + w) offered-node k (λ j. omega (arith, some)), g .small v)
+            by (yes q) (no k) = omega (arith, new-label x q, times-kept labels v (labelAt labels u + w) 0 offered-node k (λ j. omega (arith, some)), g .small v)
             by (no n) (no k) =
                 omega
-                (arith, getD-set-other labels v x (getD labels u 0 + w) 0 n, as-many labels v (getD labels u 0 + w) offered-node k (λ j. omega (arith, some)), g .small x)
+                (arith, getD-set-other labels v x (labelAt labels u + w) 0 n, times-kept labels v (labelAt labels u + w) 0 offered-node k (λ j. omega (arith, some)), g .small x)
 
 pub waits? : (places : List ℕ) (x : ℕ) → (getD places x 0 ≡ 0) ⊎ Waits places x
 waits? places x = by (ℕ-discrete (getD places x 0) 0)
@@ -134,9 +136,9 @@ waits? places x = by (ℕ-discrete (getD places x 0) 0)
 
 module _ (starts heads weights blocked : List ℕ) (source : ℕ) (labels places : List ℕ) (g : State starts heads weights blocked source labels) where
   -- one arc more of u is closed
-  module _ (u i : ℕ) (own : Owns starts u i) (listed : i < length heads) (some : getD labels u 0 ≢ 0) (idle : getD places u 0 ≡ 0) (o : Open blocked source u)
+  module _ (u i : ℕ) (own : Owns starts u i) (listed : i < length heads) (some : labelAt labels u ≢ 0) (idle : getD places u 0 ≡ 0) (o : Open blocked source u)
       (c : Closed starts heads weights blocked source labels places (Upto u i)) (labels′ places′ : List ℕ) (count count′ : ℕ)
-      (f : Offered (getD heads i 0) (getD labels u 0 + getD weights i 0) labels places count labels′ places′ count′) where
+      (f : Offered (getD heads i 0) (labelAt labels u + getD weights i 0) labels places count labels′ places′ count′) where
     arc : Arc starts heads weights u (getD heads i 0) (getD weights i 0)
     arc = record { place = i; listed = listed; owned = own; head = refl; weight = refl }
 
@@ -152,7 +154,7 @@ module _ (starts heads weights blocked : List ℕ) (source : ℕ) (labels places
     pub state-after : State starts heads weights blocked source labels′
     state-after = by f
       where
-        by : Offered (getD heads i 0) (getD labels u 0 + getD weights i 0) labels places count labels′ places′ count′ → State starts heads weights blocked source labels′
+        by : Offered (getD heads i 0) (labelAt labels u + getD weights i 0) labels places count labels′ places′ count′ → State starts heads weights blocked source labels′
         by (refused r e p q) = subst (State starts heads weights blocked source) (sym e) g
         by (taken s e w t y q) =
             subst (State starts heads weights blocked source) (sym e) (taken-state starts heads weights blocked source labels g u (getD heads i 0) (getD weights i 0) arc some o s)
@@ -160,17 +162,17 @@ module _ (starts heads weights blocked : List ℕ) (source : ℕ) (labels places
     node-in : getD heads i 0 < length labels
     node-in = offered-node starts heads weights blocked source labels g u (getD heads i 0) (getD weights i 0) arc some o
 
-    pub label-after : getD labels′ u 0 ≡ getD labels u 0
+    pub label-after : labelAt labels′ u ≡ labelAt labels u
     label-after = by f
       where
-        by : Offered (getD heads i 0) (getD labels u 0 + getD weights i 0) labels places count labels′ places′ count′ → getD labels′ u 0 ≡ getD labels u 0
+        by : Offered (getD heads i 0) (labelAt labels u + getD weights i 0) labels places count labels′ places′ count′ → labelAt labels′ u ≡ labelAt labels u
         by (refused r e p q) = ap (λ (l : List ℕ). getD l u 0) e
-        by (taken s e w t y q) = ap (λ (l : List ℕ). getD l u 0) e ∙ getD-set-other labels (getD heads i 0) u (getD labels u 0 + getD weights i 0) 0 (λ z. other-head (sym z))
+        by (taken s e w t y q) = ap (λ (l : List ℕ). getD l u 0) e ∙ getD-set-other labels (getD heads i 0) u (labelAt labels u + getD weights i 0) 0 (λ z. other-head (sym z))
 
     pub idle-after : getD places′ u 0 ≡ 0
     idle-after = by f (waits? places′ u)
       where
-        by : Offered (getD heads i 0) (getD labels u 0 + getD weights i 0) labels places count labels′ places′ count′ → (getD places′ u 0 ≡ 0) ⊎ Waits places′ u → getD places′ u 0 ≡ 0
+        by : Offered (getD heads i 0) (labelAt labels u + getD weights i 0) labels places count labels′ places′ count′ → (getD places′ u 0 ≡ 0) ⊎ Waits places′ u → getD places′ u 0 ≡ 0
         by r (inl z) = z
         by (refused r e p q) (inr w) = ap (λ (l : List ℕ). getD l u 0) p ∙ idle
         by (taken s e w t y q) (inr k) = absurd (⊎-elim (λ z. other-head (sym z)) (λ z. z idle) (y u k))
@@ -178,33 +180,33 @@ module _ (starts heads weights blocked : List ℕ) (source : ℕ) (labels places
     pub mass-after : mass labels′ + count′ ≤ mass labels + count
     mass-after = by f
       where
-        by : Offered (getD heads i 0) (getD labels u 0 + getD weights i 0) labels places count labels′ places′ count′ → mass labels′ + count′ ≤ mass labels + count
+        by : Offered (getD heads i 0) (labelAt labels u + getD weights i 0) labels places count labels′ places′ count′ → mass labels′ + count′ ≤ mass labels + count
         by (refused r e p q) = omega (arith, ap mass e)
         by (taken s e w t y q) =
             omega (
               arith,
               ap mass e,
-              mass-falls labels (getD heads i 0) (getD labels u 0 + getD weights i 0) node-in (λ z. omega (arith, some))
+              mass-falls labels (getD heads i 0) (labelAt labels u + getD weights i 0) node-in (λ z. omega (arith, some))
                   (offered-small starts heads weights blocked source labels g u (getD heads i 0) (getD weights i 0) arc some o) s,
             )
 
     pub labelled-after : Labelled labels places → Labelled labels′ places′
     labelled-after l = by f
       where
-        by : Offered (getD heads i 0) (getD labels u 0 + getD weights i 0) labels places count labels′ places′ count′ → Labelled labels′ places′
+        by : Offered (getD heads i 0) (labelAt labels u + getD weights i 0) labels places count labels′ places′ count′ → Labelled labels′ places′
         by (refused r e p q) = subst₂ Labelled (sym e) (sym p) l
         by (taken s e w t y q) = record { labelled = λ v k z. at v (y v k) (ap (λ (h : List ℕ). getD h v 0) (sym e) ∙ z) (ℕ-discrete v (getD heads i 0)) }
           where
-            at : (v : ℕ) → (v ≡ getD heads i 0) ⊎ Waits places v → getD (set labels (getD heads i 0) (getD labels u 0 + getD weights i 0)) v 0 ≡ 0 → Dec (v ≡ getD heads i 0) → ⊥
+            at : (v : ℕ) → (v ≡ getD heads i 0) ⊎ Waits places v → labelAt (set labels (getD heads i 0) (labelAt labels u + getD weights i 0)) v ≡ 0 → Dec (v ≡ getD heads i 0) → ⊥
             at v h z (yes q) =
                 omega (
                   arith,
-                  ap (λ (k : ℕ). getD (set labels (getD heads i 0) (getD labels u 0 + getD weights i 0)) k 0) q,
-                  getD-set-same labels (getD heads i 0) (getD labels u 0 + getD weights i 0) 0 node-in,
+                  ap (λ (k : ℕ). labelAt (set labels (getD heads i 0) (labelAt labels u + getD weights i 0)) k) q,
+                  getD-set-same labels (getD heads i 0) (labelAt labels u + getD weights i 0) 0 node-in,
                   some,
                 )
             at v (inl q) z (no n) = n q
-            at v (inr k) z (no n) = l .labelled v k (sym (getD-set-other labels (getD heads i 0) v (getD labels u 0 + getD weights i 0) 0 n) ∙ z)
+            at v (inr k) z (no n) = l .labelled v k (sym (getD-set-other labels (getD heads i 0) v (labelAt labels u + getD weights i 0) 0 n) ∙ z)
 
     pub closed-after : Closed starts heads weights blocked source labels′ places′ (Upto u (i + 1))
     closed-after = by f
@@ -213,20 +215,20 @@ module _ (starts heads weights blocked : List ℕ) (source : ℕ) (labels places
         at-place : (x y w : ℕ) (a : Arc starts heads weights x y w) → x ≡ u → a .place ≡ i → (y ≡ getD heads i 0) × (w ≡ getD weights i 0)
         at-place x y w a e q = (sym (a .head) ∙ ap (λ (k : ℕ). getD heads k 0) q, sym (a .weight) ∙ ap (λ (k : ℕ). getD weights k 0) q)
 
-        by : Offered (getD heads i 0) (getD labels u 0 + getD weights i 0) labels places count labels′ places′ count′ → Closed starts heads weights blocked source labels′ places′ (Upto u (i + 1))
+        by : Offered (getD heads i 0) (labelAt labels u + getD weights i 0) labels places count labels′ places′ count′ → Closed starts heads weights blocked source labels′ places′ (Upto u (i + 1))
         by (refused r e p q) =
             subst₂ (λ (l k : List ℕ). Closed starts heads weights blocked source l k (Upto u (i + 1))) (sym e) (sym p)
             (record { closed = λ x y w n z h a b. at x y w n z h a (earlier x (a .place) b (ℕ-discrete x u) (ℕ-discrete (a .place) i)) })
           where
             at :
-                (x y w : ℕ) → getD labels x 0 ≢ 0 → getD places x 0 ≡ 0 → Open blocked source x → (a : Arc starts heads weights x y w) → ((x ≡ u) × (a .place ≡ i)) ⊎ Upto u i x (a .place) →
-                Reached labels y (getD labels x 0 + w)
+                (x y w : ℕ) → labelAt labels x ≢ 0 → getD places x 0 ≡ 0 → Open blocked source x → (a : Arc starts heads weights x y w) → ((x ≡ u) × (a .place ≡ i)) ⊎ Upto u i x (a .place) →
+                Reached labels y (labelAt labels x + w)
             at x y w n z h a (inr b) = c .closed x y w n z h a b
             at x y w n z h a (inl b) =
                 let k = at-place x y w a (b .0) (b .1) in
                 record {
-                  some = λ j. r .some (ap (λ (m : ℕ). getD labels m 0) (sym (k .0)) ∙ j);
-                  most = omega (arith, r .most, ap (λ (m : ℕ). getD labels m 0) (k .0), k .1, ap (λ (m : ℕ). getD labels m 0) (b .0));
+                  some = λ j. r .some (ap (λ (m : ℕ). labelAt labels m) (sym (k .0)) ∙ j);
+                  most = omega (arith, r .most, ap (λ (m : ℕ). labelAt labels m) (k .0), k .1, ap (λ (m : ℕ). labelAt labels m) (b .0));
                 }
         by (taken s e w t only q) =
             subst (λ (l : List ℕ). Closed starts heads weights blocked source l places′ (Upto u (i + 1))) (sym e)
@@ -235,40 +237,40 @@ module _ (starts heads weights blocked : List ℕ) (source : ℕ) (labels places
             not-v : (x : ℕ) → getD places′ x 0 ≡ 0 → x ≢ getD heads i 0
             not-v x z j = w (ap (λ (m : ℕ). getD places′ m 0) (sym j) ∙ z)
 
-            old-label : (x : ℕ) → x ≢ getD heads i 0 → getD (set labels (getD heads i 0) (getD labels u 0 + getD weights i 0)) x 0 ≡ getD labels x 0
-            old-label x j = getD-set-other labels (getD heads i 0) x (getD labels u 0 + getD weights i 0) 0 j
+            old-label : (x : ℕ) → x ≢ getD heads i 0 → labelAt (set labels (getD heads i 0) (labelAt labels u + getD weights i 0)) x ≡ labelAt labels x
+            old-label x j = getD-set-other labels (getD heads i 0) x (labelAt labels u + getD weights i 0) 0 j
 
-            new-label : getD (set labels (getD heads i 0) (getD labels u 0 + getD weights i 0)) (getD heads i 0) 0 ≡ getD labels u 0 + getD weights i 0
-            new-label = getD-set-same labels (getD heads i 0) (getD labels u 0 + getD weights i 0) 0 node-in
+            new-label : labelAt (set labels (getD heads i 0) (labelAt labels u + getD weights i 0)) (getD heads i 0) ≡ labelAt labels u + getD weights i 0
+            new-label = getD-set-same labels (getD heads i 0) (labelAt labels u + getD weights i 0) 0 node-in
 
             old-idle : (x : ℕ) → getD places′ x 0 ≡ 0 → getD places x 0 ≡ 0
             old-idle x z = ⊎-elim (λ j. j) (λ j. absurd (t x j z)) (waits? places x)
 
-            lower : (y b : ℕ) → Reached labels y b → Dec (y ≡ getD heads i 0) → Reached (set labels (getD heads i 0) (getD labels u 0 + getD weights i 0)) y b
+            lower : (y b : ℕ) → Reached labels y b → Dec (y ≡ getD heads i 0) → Reached (set labels (getD heads i 0) (labelAt labels u + getD weights i 0)) y b
             lower y b r (no n) =
                 record { some = λ z. r .some (sym (old-label y n) ∙ z); most = omega (arith, old-label y n, r .most) }
             lower y b r (yes j) =
-                let here = ap (λ (m : ℕ). getD (set labels (getD heads i 0) (getD labels u 0 + getD weights i 0)) m 0) j in
-                let was = ap (λ (m : ℕ). getD labels m 0) j in
+                let here = ap (λ (m : ℕ). labelAt (set labels (getD heads i 0) (labelAt labels u + getD weights i 0)) m) j in
+                let was = ap (λ (m : ℕ). labelAt labels m) j in
                 record {
                   some = λ z. omega (arith, here, new-label, some);
                   most = ⊎-elim (λ z. absurd (r .some (was ∙ z))) (λ l. omega (arith, here, new-label, was, r .most)) s;
                 }
 
             at :
-                (x y k : ℕ) → getD (set labels (getD heads i 0) (getD labels u 0 + getD weights i 0)) x 0 ≢ 0 → getD places′ x 0 ≡ 0 → Open blocked source x →
+                (x y k : ℕ) → labelAt (set labels (getD heads i 0) (labelAt labels u + getD weights i 0)) x ≢ 0 → getD places′ x 0 ≡ 0 → Open blocked source x →
                 (a : Arc starts heads weights x y k) → ((x ≡ u) × (a .place ≡ i)) ⊎ Upto u i x (a .place) →
-                Reached (set labels (getD heads i 0) (getD labels u 0 + getD weights i 0)) y (getD (set labels (getD heads i 0) (getD labels u 0 + getD weights i 0)) x 0 + k)
+                Reached (set labels (getD heads i 0) (labelAt labels u + getD weights i 0)) y (labelAt (set labels (getD heads i 0) (labelAt labels u + getD weights i 0)) x + k)
             at x y k n z h a (inr b) =
                 let old = old-label x (not-v x z) in
-                let r = lower y (getD labels x 0 + k) (c .closed x y k (λ j. n (old ∙ j)) (old-idle x z) h a b) (ℕ-discrete y (getD heads i 0)) in
+                let r = lower y (labelAt labels x + k) (c .closed x y k (λ j. n (old ∙ j)) (old-idle x z) h a b) (ℕ-discrete y (getD heads i 0)) in
                 record { some = r .some; most = omega (arith, r .most, old) }
             at x y k n z h a (inl b) =
                 let m = at-place x y k a (b .0) (b .1) in
-                let here = ap (λ (j : ℕ). getD (set labels (getD heads i 0) (getD labels u 0 + getD weights i 0)) j 0) (m .0) in
+                let here = ap (λ (j : ℕ). labelAt (set labels (getD heads i 0) (labelAt labels u + getD weights i 0)) j) (m .0) in
                 record {
                   some = λ j. omega (arith, here, new-label, some);
-                  most = omega (arith, here, new-label, old-label x (not-v x z), ap (λ (j : ℕ). getD labels j 0) (b .0), m .1);
+                  most = omega (arith, here, new-label, old-label x (not-v x z), ap (λ (j : ℕ). labelAt labels j) (b .0), m .1);
                 }
 
 module _ (starts heads weights blocked : List ℕ) (source : ℕ) (labels places places′ : List ℕ) (u : ℕ) where
@@ -277,8 +279,8 @@ module _ (starts heads weights blocked : List ℕ) (source : ℕ) (labels places
   closed-taken c w = record { closed = λ x y k n z h a b. by x y k n z h a b (ℕ-discrete x u) }
     where
       by :
-          (x y k : ℕ) → getD labels x 0 ≢ 0 → getD places′ x 0 ≡ 0 → Open blocked source x → (a : Arc starts heads weights x y k) → Upto u (getD starts u 0) x (a .place) → Dec (x ≡ u) →
-          Reached labels y (getD labels x 0 + k)
+          (x y k : ℕ) → labelAt labels x ≢ 0 → getD places′ x 0 ≡ 0 → Open blocked source x → (a : Arc starts heads weights x y k) → Upto u (getD starts u 0) x (a .place) → Dec (x ≡ u) →
+          Reached labels y (labelAt labels x + k)
       by x y k n z h a b (yes e) = absurd (omega (arith, b e, a .owned .from, ap (λ (j : ℕ). getD starts j 0) e))
       by x y k n z h a b (no d) = c .closed x y k n (⊎-elim (λ j. j) (λ j. absurd (w .still x d j z)) (waits? places x)) h a tt
 
@@ -295,8 +297,8 @@ module _ (starts heads weights blocked : List ℕ) (source : ℕ) (labels places
 module _ (starts heads weights blocked : List ℕ) (source : ℕ) (labels places : List ℕ) (g : State starts heads weights blocked source labels)
     (c : Closed starts heads weights blocked source labels places All) (idle : (v : ℕ) → getD places v 0 ≡ 0) where
   along-reached :
-      {a : ℕ} {l : List ℕ} {b d : ℕ} → Along (road starts heads weights) a l b d → getD labels a 0 ≢ 0 → Open blocked source a → Inside (Free blocked) l →
-      Reached labels b (getD labels a 0 + d)
+      {a : ℕ} {l : List ℕ} {b d : ℕ} → Along (road starts heads weights) a l b d → labelAt labels a ≢ 0 → Open blocked source a → Inside (Free blocked) l →
+      Reached labels b (labelAt labels a + d)
   along-reached stop s o i = record { some = s; most = omega arith }
   along-reached (step {a = a} {x = x} {w = w} t stop) s o i =
       let r = c .closed a x w s (idle a) o t tt in
@@ -311,7 +313,7 @@ module _ (starts heads weights blocked : List ℕ) (source : ℕ) (labels places
       let r = along-reached (p .path .along) (λ z. omega (arith, g .start)) (inl refl) (p .inner) in
       record { some = r .some; most = omega (arith, r .most, g .start) }
 
-  told-at : (v : ℕ) → Told (Reaches (road starts heads weights) (Free blocked) source v) (getD labels v 0)
+  told-at : (v : ℕ) → Told (Reaches (road starts heads weights) (Free blocked) source v) (labelAt labels v)
   told-at v =
       record {
         none = λ e. record { none = λ d p. path-reached v d p .some e };
@@ -319,7 +321,7 @@ module _ (starts heads weights blocked : List ℕ) (source : ℕ) (labels places
       }
     where
       is-at :
-          (d : ℕ) → getD labels v 0 ≡ suc d → (w : ℕ) × Reaches (road starts heads weights) (Free blocked) source v w × (w ≤ d) → Reaches (road starts heads weights) (Free blocked) source v d
+          (d : ℕ) → labelAt labels v ≡ suc d → (w : ℕ) × Reaches (road starts heads weights) (Free blocked) source v w × (w ≤ d) → Reaches (road starts heads weights) (Free blocked) source v d
       is-at d e p =
           let same : p .0 ≡ d = omega (arith, p .2, path-reached v (p .0) (p .1) .most) in
           subst (Reaches (road starts heads weights) (Free blocked) source v) same (p .1)
@@ -330,10 +332,6 @@ module _ (starts heads weights blocked : List ℕ) (source : ℕ) (labels places
 -- The start: the source alone has a label, and waits.
 abbrev pub blank : ℕ → List ℕ
 blank n = replicate n 0
-
-zeros-all : (n : ℕ) → zeros (replicate n 0) ≡ n
-zeros-all zero = refl
-zeros-all (suc n) = omega (arith, zeros-all n)
 
 module _ (starts heads weights blocked : List ℕ) (source : ℕ) (sound : Sound overlayLimits starts heads weights) (node : source < nodesOf starts) where
   first-label : getD (set (blank (nodesOf starts)) source 1) source 0 ≡ 1
@@ -365,12 +363,12 @@ module _ (starts heads weights blocked : List ℕ) (source : ℕ) (sound : Sound
           let none : 0 ≡ d = omega (arith, ap (λ (k : ℕ). getD (set (blank (nodesOf starts)) source 1) k 0) q, first-label) in
           subst₂ (λ (x y : ℕ). Walks (road starts heads weights) (Free blocked) source x y) (sym q) none (record { after = []; along = stop; inner = tt })
 
-      fewer : zeros (set (blank (nodesOf starts)) source 1) + 1 ≡ nodesOf starts
+      fewer : times 0 (set (blank (nodesOf starts)) source 1) + 1 ≡ nodesOf starts
       fewer =
-          one-fewer (blank (nodesOf starts)) source 1 (omega (arith, length-replicate {A = ℕ} (nodesOf starts) 0)) (zeros-at (nodesOf starts) source) (λ z. omega arith) ∙
-          zeros-all (nodesOf starts)
+          times-fewer (blank (nodesOf starts)) source 1 0 (omega (arith, length-replicate {A = ℕ} (nodesOf starts) 0)) (zeros-at (nodesOf starts) source) (λ z. omega arith) ∙
+          times-each (nodesOf starts) 0
 
-      small-by : (v : ℕ) → Dec (v ≡ source) → getD (set (blank (nodesOf starts)) source 1) v 0 + zeros (set (blank (nodesOf starts)) source 1) * 4095000000 ≤ 1 + nodesOf starts * 4095000000
+      small-by : (v : ℕ) → Dec (v ≡ source) → getD (set (blank (nodesOf starts)) source 1) v 0 + times 0 (set (blank (nodesOf starts)) source 1) * 4095000000 ≤ 1 + nodesOf starts * 4095000000
       small-by v (yes e) = omega (arith, ap (λ (k : ℕ). getD (set (blank (nodesOf starts)) source 1) k 0) e, first-label, fewer)
       small-by v (no n) = omega (arith, first-other v n, fewer)
 
@@ -392,7 +390,7 @@ module _ (starts heads weights blocked : List ℕ) (source : ℕ) (sound : Sound
 pub record Relaxing (starts heads weights blocked : List ℕ) (source u : ℕ) (labels₀ heap₀ places₀ : List ℕ) (waiting base end i : ℕ) (labels heap places : List ℕ) (count : ℕ) : Type 0 where
   pub going : Going starts heads weights blocked source labels heap places count (Upto u i)
   pub leaves : Leaves blocked source labels places u
-  pub base-is : getD labels u 0 ≡ base
+  pub base-is : labelAt labels u ≡ base
   pub end-is : end ≡ getD starts (u + 1) 0
   pub from : getD starts u 0 ≤ i
   pub to : i ≤ end
@@ -403,7 +401,7 @@ pub record Relaxing (starts heads weights blocked : List ℕ) (source u : ℕ) (
 
 module _ (starts heads weights blocked : List ℕ) (source u : ℕ) (labels₀ heap₀ places₀ : List ℕ) (waiting base end : ℕ) where
   pub relax-none :
-      Going starts heads weights blocked source labels₀ heap₀ places₀ waiting (Upto u (getD starts u 0)) → Leaves blocked source labels₀ places₀ u → base ≡ getD labels₀ u 0 →
+      Going starts heads weights blocked source labels₀ heap₀ places₀ waiting (Upto u (getD starts u 0)) → Leaves blocked source labels₀ places₀ u → base ≡ labelAt labels₀ u →
       end ≡ getD starts (u + 1) 0 → u < nodesOf starts → (i : ℕ) → i ≡ getD starts u 0 → Relaxing starts heads weights blocked source u labels₀ heap₀ places₀ waiting base end i labels₀ heap₀ places₀ waiting
   relax-none g l b e h i q =
       record {
@@ -465,10 +463,10 @@ module _ (starts heads weights blocked : List ℕ) (source u : ℕ) (labels₀ h
           places-long = lp ∙ r .places-long;
         }
       where
-        o : Offered (getD heads i 0) (getD labels u 0 + getD weights i 0) labels places count labels′ places′ count′
+        o : Offered (getD heads i 0) (labelAt labels u + getD weights i 0) labels places count labels′ places′ count′
         o = subst₂ (λ (y z : ℕ). Offered y z labels places count labels′ places′ count′) ev (ex ∙ ap (λ (y : ℕ). y + getD weights i 0) (sym (r .base-is))) f
 
-        keeps : getD labels′ u 0 ≡ getD labels u 0
+        keeps : labelAt labels′ u ≡ labelAt labels u
         keeps = label-after starts heads weights blocked source labels places (r .going .state) u i row-own row-listed (r .leaves .some) (r .leaves .idle) (r .leaves .may) (r .going .closed) labels′ places′ count count′ o
 
   pub relax-end :
@@ -515,51 +513,24 @@ module _ (starts heads weights blocked : List ℕ) (source : ℕ) (labels heap p
       }
 
 -- The search between takes, with the lengths that stay.
-pub record Running (starts heads weights blocked : List ℕ) (source : ℕ) (labels₀ heap₀ places₀ labels heap places : List ℕ) (count takes : ℕ) : Type 0 where
+pub record Running (starts heads weights blocked : List ℕ) (source : ℕ) (labels₀ heap₀ places₀ labels heap places : List ℕ) (count : ℕ) : Type 0 where
   pub going : Going starts heads weights blocked source labels heap places count All
-  pub spent : takes + (mass labels + count) ≤ 81920000000004096
   pub labels-long : length labels ≡ length labels₀
   pub heap-long : length heap ≡ length heap₀
   pub places-long : length places ≡ length places₀
 
--- the mass is that of so many nodes without a label, at most
-mass-most : (l : List ℕ) → ((v : ℕ) → getD l v 0 ≤ 20000000000000) → mass l ≤ length l * 20000000000000
-mass-most [] h = omega arith
-mass-most (zero ∷ l) h = omega (arith, mass-most l (λ v. h (suc v)))
-mass-most (suc x ∷ l) h = omega (arith, h 0, mass-most l (λ v. h (suc v)))
-
 module _ (starts heads weights blocked : List ℕ) (source : ℕ) where
   pub running-none :
       (labels heap places : List ℕ) (count : ℕ) → Going starts heads weights blocked source labels heap places count All →
-      Running starts heads weights blocked source labels heap places labels heap places count 0
-  running-none labels heap places count g =
-      record {
-        going = g;
-        spent = omega (arith, most, mul-le-mul-right 20000000000000 nodes, g .heap-is .count, g .heap-is .few);
-        labels-long = refl;
-        heap-long = refl;
-        places-long = refl;
-      }
-    where
-      nodes : length labels ≤ 4096
-      nodes = omega (arith, g .state .long, g .state .sound-graph .sized .most)
-
-      most : mass labels ≤ length labels * 20000000000000
-      most = mass-most labels (λ v. omega (arith, label-small starts heads weights blocked source labels (g .state) v))
+      Running starts heads weights blocked source labels heap places labels heap places count
+  running-none labels heap places count g = record { going = g; labels-long = refl; heap-long = refl; places-long = refl }
 
   pub running-on :
-      (labels₀ heap₀ places₀ labels heap places : List ℕ) (count takes : ℕ) →
-      Running starts heads weights blocked source labels₀ heap₀ places₀ labels heap places count takes → (labels′ heap′ places′ : List ℕ) (count′ : ℕ) →
-      Going starts heads weights blocked source labels′ heap′ places′ count′ All → mass labels′ + count′ < mass labels + count → length labels′ ≡ length labels →
-      length heap′ ≡ length heap → length places′ ≡ length places → Running starts heads weights blocked source labels₀ heap₀ places₀ labels′ heap′ places′ count′ (takes + 1)
-  running-on labels₀ heap₀ places₀ labels heap places count takes r labels′ heap′ places′ count′ g f ll lh lp =
-      record {
-        going = g;
-        spent = omega (arith, r .spent, f);
-        labels-long = ll ∙ r .labels-long;
-        heap-long = lh ∙ r .heap-long;
-        places-long = lp ∙ r .places-long;
-      }
+      (labels₀ heap₀ places₀ labels heap places : List ℕ) (count : ℕ) → Running starts heads weights blocked source labels₀ heap₀ places₀ labels heap places count →
+      (labels′ heap′ places′ : List ℕ) (count′ : ℕ) → Going starts heads weights blocked source labels′ heap′ places′ count′ All → length labels′ ≡ length labels →
+      length heap′ ≡ length heap → length places′ ≡ length places → Running starts heads weights blocked source labels₀ heap₀ places₀ labels′ heap′ places′ count′
+  running-on labels₀ heap₀ places₀ labels heap places count r labels′ heap′ places′ count′ g ll lh lp =
+      record { going = g; labels-long = ll ∙ r .labels-long; heap-long = lh ∙ r .heap-long; places-long = lp ∙ r .places-long }
 
   pub going-at :
       (labels heap places : List ℕ) (count count′ : ℕ) → count ≡ count′ → Going starts heads weights blocked source labels heap places count All →
@@ -567,17 +538,11 @@ module _ (starts heads weights blocked : List ℕ) (source : ℕ) where
   going-at labels heap places count count′ e g = subst (λ (k : ℕ). Going starts heads weights blocked source labels heap places k All) e g
 
 -- An empty queue is zeros.
-all-zero : (l : List ℕ) → zeros l ≡ length l → (v : ℕ) → getD l v 0 ≡ 0
-all-zero [] e v = refl
-all-zero (zero ∷ l) e zero = refl
-all-zero (zero ∷ l) e (suc v) = all-zero l (omega arith) v
-all-zero (suc x ∷ l) e v = absurd (omega (arith, zeros-short l))
-
 pub empty-queue : (heap places : List ℕ) (h n : ℕ) → heap ≡ blank h → places ≡ blank n → n ≤ mostNodes → n ≤ h → Heap heap places 0
 empty-queue heap places h n e f few room =
     subst₂ (λ (x y : List ℕ). Heap x y 0) (sym e) (sym f)
     (record {
-      count = omega (arith, zeros-all n, length-replicate {A = ℕ} n 0);
+      count = omega (arith, times-each n 0, length-replicate {A = ℕ} n 0);
       few = omega (arith, length-replicate {A = ℕ} n 0);
       room = omega (arith, length-replicate {A = ℕ} n 0, length-replicate {A = ℕ} h 0);
       there = λ i v z. absurd (omega (arith, zeros-at h i));
@@ -588,7 +553,7 @@ empty-queue heap places h n e f few room =
 
 module _ (starts heads weights blocked : List ℕ) (source : ℕ) (labels heap places : List ℕ) (g : Going starts heads weights blocked source labels heap places 0 All) where
   idle-all : (v : ℕ) → getD places v 0 ≡ 0
-  idle-all = all-zero places (omega (arith, g .heap-is .count))
+  idle-all = times-all places (omega (arith, g .heap-is .count))
 
   pub row-of : Row (road starts heads weights) blocked source labels
   row-of = row-found starts heads weights blocked source labels places (g .state) (g .closed) idle-all

@@ -3,15 +3,16 @@ use crate::queue::add;
 use crate::queue::sooner;
 use crate::queue::take;
 use crate::queue::up;
-use road::NodeCount;
+use road::row;
 use road::wide;
 ghost use mathlib.Core.Path.{_≡_};
 ghost use Prim.Native.Nat.{_+_, _≤_, _<_};
 ghost use lib.ListN.{length, getD, replicate};
-ghost use Rattle.road.specs.Roads.{nodesOf, road};
-ghost use Rattle.search.specs.Queue.{Heap};
-ghost use Rattle.search.specs.Rows.{Asks, Row};
-ghost use Rattle.search.specs.States.{All, Going, Leaves, Offered, Upto, mass};
+ghost use Rattle.lent.specs.Slices.{before, after};
+ghost use Rattle.road.specs.Roads.{nodesOf, roadAt};
+ghost use Rattle.search.specs.workings.Queue.{Heap};
+ghost use Rattle.search.specs.workings.Rows.{Asks, Row};
+ghost use Rattle.search.specs.workings.States.{All, Going, Leaves, Offered, Upto, mass};
 
 // A label as wide as sums are.
 fn long(x: u32) -> u64
@@ -32,8 +33,8 @@ fn offer(
     requires { ⌜ Heap (now heap) (now places) count ⌝ }
     requires { ⌜ length (now labels) ≡ length (now places) ⌝ }
     requires { ⌜ v < length (now places) ⌝ }
-    ensures { λ r. ⌜ Heap (now (heap .exit)) (now (places .exit)) r ⌝ }
-    ensures { λ r. ⌜ Offered v x (now (labels .entry)) (now (places .entry)) count (now (labels .exit)) (now (places .exit)) r ⌝ }
+    ensures { λ r. ⌜ Heap (after heap) (after places) r ⌝ }
+    ensures { λ r. ⌜ Offered v x (before labels) (before places) count (after labels) (after places) r ⌝ }
 {
     if sooner(x, labels[v]) {
         labels[v] = x;
@@ -64,12 +65,13 @@ fn relax(
     requires { ⌜ Going (now starts) (now heads) (now weights) (now blocked) source (now labels) (now heap) (now places) waiting (Upto u (getD (now starts) u 0)) ⌝ }
     requires { ⌜ Leaves (now blocked) source (now labels) (now places) u ⌝ }
     requires { ⌜ u < nodesOf (now starts) ⌝ }
-    ensures { λ r. ⌜ Going (now (starts .entry)) (now (heads .entry)) (now (weights .entry)) (now (blocked .entry)) source (now (labels .exit)) (now (heap .exit)) (now (places .exit)) r All ⌝ }
-    ensures { λ r. ⌜ mass (now (labels .exit)) + r ≤ mass (now (labels .entry)) + waiting ⌝ }
+    ensures { λ r. ⌜ Going (before starts) (before heads) (before weights) (before blocked) source (after labels) (after heap) (after places) r All ⌝ }
+    ensures { λ r. ⌜ mass (after labels) + r ≤ mass (before labels) + waiting ⌝ }
 {
     let base = labels[u];
-    let end = wide(starts[u + 1]);
-    let mut i = wide(starts[u]);
+    let arcs = row(starts, u);
+    let end = arcs.end;
+    let mut i = arcs.first;
     let mut count = waiting;
     while i < end {
         let x = base + long(weights[i]);
@@ -79,8 +81,9 @@ fn relax(
     count
 }
 
-// Takes a node that waits, and where it may be left offers its neighbours labels.
-fn take_one(
+// Takes a node that waits, and where it may be left offers its neighbours labels; gives how many
+// wait then.
+pub fn take_one(
     starts: &[u32],
     heads: &[u32],
     weights: &[u32],
@@ -94,8 +97,8 @@ fn take_one(
     requires { ⌜ Going (now starts) (now heads) (now weights) (now blocked) source (now labels) (now heap) (now places) waiting All ⌝ }
     requires { ⌜ length (now blocked) ≡ nodesOf (now starts) ⌝ }
     requires { ⌜ 1 ≤ waiting ⌝ }
-    ensures { λ r. ⌜ Going (now (starts .entry)) (now (heads .entry)) (now (weights .entry)) (now (blocked .entry)) source (now (labels .exit)) (now (heap .exit)) (now (places .exit)) r All ⌝ }
-    ensures { λ r. ⌜ mass (now (labels .exit)) + r < mass (now (labels .entry)) + waiting ⌝ }
+    ensures { λ r. ⌜ Going (before starts) (before heads) (before weights) (before blocked) source (after labels) (after heap) (after places) r All ⌝ }
+    ensures { λ r. ⌜ mass (after labels) + r < mass (before labels) + waiting ⌝ }
 {
     let u = take(heap, places, labels, waiting);
     if u == source {
@@ -129,8 +132,7 @@ fn take_one(
     waiting - 1
 }
 
-// Takes nodes until none waits; gives how many it took. Nothing is said of that number: it shows how
-// well the queue orders them.
+// Takes nodes until none waits.
 fn run(
     starts: &[u32],
     heads: &[u32],
@@ -141,13 +143,12 @@ fn run(
     places: &mut [u32],
     labels: &mut [u64],
     waiting: usize,
-) -> NodeCount
+)
     requires { ⌜ Going (now starts) (now heads) (now weights) (now blocked) source (now labels) (now heap) (now places) waiting All ⌝ }
     requires { ⌜ length (now blocked) ≡ nodesOf (now starts) ⌝ }
-    ensures { λ _. ⌜ Going (now (starts .entry)) (now (heads .entry)) (now (weights .entry)) (now (blocked .entry)) source (now (labels .exit)) (now (heap .exit)) (now (places .exit)) 0 All ⌝ }
+    ensures { λ _. ⌜ Going (before starts) (before heads) (before weights) (before blocked) source (after labels) (after heap) (after places) 0 All ⌝ }
 {
     let mut count = waiting;
-    let mut taken = 0;
     while 0 < count {
         count = take_one(
             starts,
@@ -160,14 +161,12 @@ fn run(
             labels,
             count,
         );
-        taken += 1;
     }
-    NodeCount(taken)
 }
 
 // Fills labels with zeros.
 pub fn clear_labels(s: &mut [u64])
-    ensures { λ _. ⌜ now (s .exit) ≡ replicate (length (now (s .entry))) 0 ⌝ }
+    ensures { λ _. ⌜ after s ≡ replicate (length (before s)) 0 ⌝ }
 {
     let mut i = 0;
     while i < s.len() {
@@ -176,10 +175,8 @@ pub fn clear_labels(s: &mut [u64])
     }
 }
 
-// For every node the least weight over paths from the source with no blocked node strictly inside,
-// as a label: 0 where there is none, else the weight + 1. The queue's two slices are zeros before
-// and after. Gives how many nodes were taken, of which nothing is promised.
-pub fn search_counting(
+// The search before its first take: the source alone has a label, and waits.
+pub fn begin(
     starts: &[u32],
     heads: &[u32],
     weights: &[u32],
@@ -188,28 +185,18 @@ pub fn search_counting(
     labels: &mut [u64],
     heap: &mut [u32],
     places: &mut [u32],
-) -> NodeCount
+)
     requires { ⌜ Asks (now starts) (now heads) (now weights) (now blocked) source (now labels) (now heap) (now places) ⌝ }
-    ensures { λ _. ⌜ Row (road (now (starts .entry)) (now (heads .entry)) (now (weights .entry))) (now (blocked .entry)) source (now (labels .exit)) ⌝ }
-    ensures { λ _. ⌜ (now (heap .exit) ≡ now (heap .entry)) × (now (places .exit) ≡ now (places .entry)) ⌝ }
+    ensures { λ _. ⌜ Going (before starts) (before heads) (before weights) (before blocked) source (after labels) (after heap) (after places) 1 All ⌝ }
 {
     clear_labels(labels);
     labels[source] = 1;
     add(heap, places, labels, 0, source);
-    run(
-        starts,
-        heads,
-        weights,
-        blocked,
-        source,
-        heap,
-        places,
-        labels,
-        1,
-    )
 }
 
-// The same, for those who need the labels alone.
+// For every node the least weight over paths from the source with no blocked node strictly inside,
+// as a label: 0 where there is none, else the weight + 1. The queue's two slices are zeros before
+// and after.
 pub fn search(
     starts: &[u32],
     heads: &[u32],
@@ -221,10 +208,10 @@ pub fn search(
     places: &mut [u32],
 )
     requires { ⌜ Asks (now starts) (now heads) (now weights) (now blocked) source (now labels) (now heap) (now places) ⌝ }
-    ensures { λ _. ⌜ Row (road (now (starts .entry)) (now (heads .entry)) (now (weights .entry))) (now (blocked .entry)) source (now (labels .exit)) ⌝ }
-    ensures { λ _. ⌜ (now (heap .exit) ≡ now (heap .entry)) × (now (places .exit) ≡ now (places .entry)) ⌝ }
+    ensures { λ _. ⌜ Row (roadAt before starts heads weights) (before blocked) source (after labels) ⌝ }
+    ensures { λ _. ⌜ (after heap ≡ before heap) × (after places ≡ before places) ⌝ }
 {
-    search_counting(
+    begin(
         starts,
         heads,
         weights,
@@ -233,5 +220,16 @@ pub fn search(
         labels,
         heap,
         places,
+    );
+    run(
+        starts,
+        heads,
+        weights,
+        blocked,
+        source,
+        heap,
+        places,
+        labels,
+        1,
     );
 }

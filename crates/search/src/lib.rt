@@ -2,6 +2,7 @@
 mod labels;
 mod queue;
 
+pub use labels::begin;
 pub use labels::clear_labels;
 pub use labels::search;
-pub use labels::search_counting;
+pub use labels::take_one;

@@ -13,12 +13,13 @@ use Rattle.paths.proofs.Turned.{Back, back-onto, different-onto, turned-proper}
 use Rattle.paths.proofs.Ways.{end-node}
 use Rattle.road.specs.declared.Limits.{Limits}
 use Rattle.road.specs.Drives.{Joined}
-use Rattle.road.specs.Refusals.{Tells}
-use Rattle.road.specs.Roads.{nodesOf, Arc, road, Sound, TurnedRound}
+use Rattle.road.specs.workings.Verdicts.{Tells}
+use Rattle.road.specs.Roads.{nodesOf, Arc, road}
+use Rattle.road.specs.workings.Sound.{Sound, TurnedRound}
 use Rattle.road.proofs.Faults.{road-proper}
 use Rattle.rule.specs.Rule.{Dropped, Needed, PathOf}
 use Rattle.trails.proofs.Halves.{Halves, halves, halves-free}
-use Rattle.trails.specs.Search.{Completes, ends, longer, NoneMissing, OutwardFrom, Outward, Inward}
+use Rattle.trails.specs.workings.Search.{Completes, ends, longer, NoneMissing, OutwardFrom, Outward, Inward}
 
 -- each joined to the next
 abbrev Chain : (ℕ → ℕ → Type 0) → ℕ → List ℕ → Type 0

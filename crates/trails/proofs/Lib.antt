@@ -3,3 +3,4 @@ pub mod Trails
 pub mod Searching
 pub mod Halves
 pub mod Completing
+pub mod Forbidden

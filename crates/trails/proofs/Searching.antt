@@ -1,5 +1,5 @@
 -- The search's loop over the arcs of one node, for either end of the path.
-use mathlib.Core.Path.{_≡_, refl, sym, ap, subst, subst₂, _∙_}
+use mathlib.Core.Path.{_≡_, refl, sym, subst, subst₂}
 use mathlib.Core.Bool.{Bool}
 use mathlib.Core.Logic.{_⊎_, inl, inr, ⊎-elim, _≢_}
 use mathlib.Core.List.{List, [], _∷_, _++_}
@@ -7,16 +7,16 @@ use Prim.Native.Nat.{ℕ, suc, _+_, _-_, _≤_, _<_}
 use native.Mathlib.Omega.{arith}
 use borrow.Author.Count.{below-more}
 use lib.ListN.{length, getD}
-use Rattle.paths.specs.Lists.{Mem, Each}
-use Rattle.paths.proofs.Lists.{each-mem, mem-at, mem-left, mem-right, mem-cases}
+use Rattle.paths.specs.Lists.{Mem}
+use Rattle.paths.proofs.Lists.{mem-left, mem-right, mem-cases}
 use Rattle.road.specs.Drives.{Joined}
-use Rattle.road.specs.Refusals.{Tells}
+use Rattle.road.specs.workings.Verdicts.{Tells}
 use Rattle.road.specs.declared.Limits.{Limits}
-use Rattle.road.specs.Limits.{overlayLimits}
-use Rattle.road.specs.Roads.{nodesOf, Owns, Rising, Sound}
+use Rattle.road.specs.Roads.{nodesOf, Owns}
+use Rattle.road.specs.workings.Sound.{Rising, Sound}
 use Rattle.road.proofs.Rows.{owned-listed}
 use Rattle.rule.specs.Rule.{Dropped}
-use Rattle.trails.specs.Search.{Completes, ends, longer, NoneMissing, Outward, OutwardFrom, FreeNode, Longest, Larger, Within, Searchable}
+use Rattle.trails.specs.workings.Search.{Completes, ends, longer, NoneMissing, Outward, OutwardFrom, FreeNode, Longest, Larger, Within, Searchable}
 
 -- one way to complete the path, taken apart
 record Longer (Next : ℕ → ℕ → Type 0) (Free : ℕ → Type 0) (End : List ℕ → ℕ → Type 0) (on : List ℕ) (a m : ℕ) : Type 0 where

@@ -2,7 +2,7 @@
 use mathlib.Core.Path.{_≡_, refl, sym, ap, subst, _∙_}
 use mathlib.Core.Bool.{true, false}
 use mathlib.Core.Logic.{_≢_}
-use mathlib.Core.List.{List, [], _∷_, _++_}
+use mathlib.Core.List.{List}
 use Prim.Native.Nat.{ℕ, _+_, _-_, _≤_, _<_}
 use native.Mathlib.Decide.{ℕ-discrete}
 use native.Mathlib.Numerals.{add-one}
@@ -11,8 +11,9 @@ use lib.ListN.{length, getD, set, take}
 use lib.Seq.{take-suc-set, getD-take, length-take-le}
 use Rattle.paths.specs.Lists.{Mem}
 use Rattle.paths.proofs.Lists.{mem-at, place-of}
+use Rattle.trails.specs.declared.Pushed.{Pushed}
 use Rattle.trails.specs.declared.Trail.{Trail}
-use Rattle.trails.specs.Trails.{onTrail, Pushes}
+use Rattle.trails.specs.Trails.{Pushes}
 
 pub pushes-full : (t : Trail) (v : ℕ) → 32 ≤ t .count .0 → Pushes t v (record { full = true; trail = t })
 pushes-full t v h = record { longer = λ l. absurd (omega arith); full = λ l. (refl, refl) }
@@ -51,3 +52,7 @@ others-more nodes count v i h f n j l b = by (ℕ-discrete j (i - 1))
     by : Dec (j ≡ i - 1) → getD nodes j 0 ≢ v
     by (yes e) z = n (ap (λ (x : ℕ). getD nodes x 0) (sym e) ∙ z)
     by (no d) z = f j (omega (arith, d)) b z
+
+-- a path with room is not full
+pub not-full : (t : Trail) (v : ℕ) (r : Pushed) → Pushes t v r → t .count .0 < 32 → r .full ≡ true → ⊥
+not-full t v r p h e = let f : r .full ≡ false = p .longer h .0 in let z : _≡_ {A = ℕ} 0 1 = cc in omega arith

@@ -1,3 +1,3 @@
 -- The path under trial, and when it can be completed.
 pub mod Trails
-pub mod Search
+pub mod workings

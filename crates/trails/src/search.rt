@@ -1,19 +1,22 @@
 // Whether the path under trial can be completed by dropped nodes: at its inward end over the graph
-// turned round, and then at its outward end. Each call of itself has one node fewer missing.
+// turned round, and then at its outward end. Each call of itself has one node fewer missing. A path
+// that is full goes no further: with k of at most 32 that is never met.
 use crate::Trail;
 use road::NodeCount;
+use road::row;
 use road::wide;
 ghost use Prim.Native.Nat.{_+_, _≤_, _<_};
 ghost use lib.ListN.{length};
-ghost use Rattle.road.specs.Refusals.{Tells};
-ghost use Rattle.trails.specs.Search.{FreeNode, Inward, Larger, Longest, Outward, Searchable, Within};
+ghost use Rattle.lent.specs.Slices.{before};
+ghost use Rattle.road.specs.workings.Verdicts.{Tells};
+ghost use Rattle.trails.specs.workings.Search.{FreeNode, Inward, Larger, Longest, Outward, Searchable, Within};
 ghost use Rattle.trails.specs.Trails.{onTrail};
 
 // Whether v is dropped and not on the path yet.
 fn is_free(cover: &[u8], t: Trail, v: u32) -> bool
     requires { ⌜ v < length (now cover) ⌝ }
     requires { ⌜ t .count .0 ≤ 32 ⌝ }
-    ensures { λ r. ⌜ Tells r (FreeNode (now (cover .entry)) (onTrail t) v) ⌝ }
+    ensures { λ r. ⌜ Tells r (FreeNode (before cover) (onTrail t) v) ⌝ }
 {
     if cover[wide(v)] != 0 {
         return false;
@@ -36,18 +39,21 @@ fn outward(
     requires { ⌜ Searchable (now starts) (now heads) (length (now cover)) ⌝ }
     requires { ⌜ last < length (now cover) ⌝ }
     requires { ⌜ t .count .0 + missing .0 ≤ 32 ⌝ }
-    ensures { λ r. ⌜ Tells r (Outward (now (starts .entry)) (now (heads .entry)) (now (cover .entry)) (onTrail t) last (missing .0)) ⌝ }
+    ensures { λ r. ⌜ Tells r (Outward (before starts) (before heads) (before cover) (onTrail t) last (missing .0)) ⌝ }
 {
     if missing.0 == 0 {
         return true;
     }
-    let end = wide(starts[last + 1]);
-    let mut i = wide(starts[last]);
+    let arcs = row(starts, last);
+    let end = arcs.end;
+    let mut i = arcs.first;
     while i < end {
         let v = heads[i];
         if is_free(cover, t, v) {
-            // k is at most 32, so there is room.
             let longer = t.push(v);
+            if longer.full {
+                return false;
+            }
             let trail = longer.trail;
             if outward(
                 starts,
@@ -86,18 +92,22 @@ pub fn longest(
     requires { ⌜ Searchable (now starts) (now heads) (length (now cover)) ⌝ }
     requires { ⌜ last < length (now cover) ⌝ }
     requires { ⌜ t .count .0 + most .0 ≤ 32 ⌝ }
-    ensures { λ r. ⌜ Longest (now (starts .entry)) (now (heads .entry)) (now (cover .entry)) (onTrail t) last (most .0) (r .0) ⌝ }
+    ensures { λ r. ⌜ Longest (before starts) (before heads) (before cover) (onTrail t) last (most .0) (r .0) ⌝ }
 {
     if most.0 == 0 {
         return NodeCount(0);
     }
-    let end = wide(starts[last + 1]);
-    let mut i = wide(starts[last]);
+    let arcs = row(starts, last);
+    let end = arcs.end;
+    let mut i = arcs.first;
     let mut best = 0;
     while i < end {
         let v = heads[i];
         if is_free(cover, t, v) {
             let longer = t.push(v);
+            if longer.full {
+                return NodeCount(best);
+            }
             let trail = longer.trail;
             let found = longest(starts, heads, cover, trail, wide(v), NodeCount(most.0 - 1));
             best = larger(best, found.0 + 1);
@@ -131,17 +141,21 @@ pub fn inward(
     requires { ⌜ last < length (now cover) ⌝ }
     requires { ⌜ t .count .0 + missing .0 ≤ 32 ⌝ }
     requires { ⌜ Within (now starts) (now heads) (now cover) (onTrail t) last (missing .0) (reach .0) ⌝ }
-    ensures { λ r. ⌜ Tells r (Inward (now (starts .entry)) (now (heads .entry)) (now («starts_back» .entry)) (now («heads_back» .entry)) (now (cover .entry)) last (onTrail t) first (missing .0)) ⌝ }
+    ensures { λ r. ⌜ Tells r (Inward (before starts) (before heads) (before «starts_back») (before «heads_back») (before cover) last (onTrail t) first (missing .0)) ⌝ }
 {
     if missing.0 == 0 {
         return true;
     }
-    let end = wide(starts_back[first + 1]);
-    let mut i = wide(starts_back[first]);
+    let arcs = row(starts_back, first);
+    let end = arcs.end;
+    let mut i = arcs.first;
     while i < end {
         let v = heads_back[i];
         if is_free(cover, t, v) {
             let longer = t.push(v);
+            if longer.full {
+                return false;
+            }
             let trail = longer.trail;
             if inward(
                 starts,

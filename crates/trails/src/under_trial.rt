@@ -6,7 +6,7 @@ ghost use mathlib.Core.Path.{_≡_};
 ghost use mathlib.Core.List.{[], _∷_};
 ghost use Prim.Native.Nat.{_≤_};
 ghost use Rattle.paths.specs.Lists.{Mem};
-ghost use Rattle.road.specs.Refusals.{Tells};
+ghost use Rattle.road.specs.workings.Verdicts.{Tells};
 ghost use Rattle.trails.specs.Trails.{onTrail, Pushes};
 
 impl Trail {

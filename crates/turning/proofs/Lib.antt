@@ -1,2 +1,3 @@
 -- The laws of turning a graph round.
 pub mod Turns
+pub mod Forbidden

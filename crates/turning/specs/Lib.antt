@@ -1,2 +1,2 @@
 -- What turning a graph round does.
-pub mod Turning
+pub mod workings

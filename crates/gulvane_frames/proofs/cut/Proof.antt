@@ -1,12 +1,9 @@
-use Rattle.gulvane_frames.specs.Runs.{Cut}
+use Rattle.gulvane_frames.specs.workings.Runs.{Cut}
 use Prim.Native.Nat.{_-_}
 use native.Mathlib.Omega.{arith}
 use borrow.Author.Needs.{needs}
 use Rattle.gulvane_frames.proofs.cut.Statement.{statement}
 use Rattle.gulvane_frames.proofs.cut.Tie as tie
-use Rattle.gulvane_frames.proofs.cut.Reads as reads
-use Rattle.gulvane_frames.proofs.cut.Lts as lts
-use Rattle.gulvane_frames.proofs.keep.Reads as keep-reads
 
 abbrev Inv-loop : tie.InvT-loop
 Inv-loop chunk used filled line₀ kept p₀ k₀ line p k = Cut p filled k
@@ -14,35 +11,30 @@ Inv-loop chunk used filled line₀ kept p₀ k₀ line p k = Cut p filled k
 abbrev μ-loop : tie.MeasureT-loop
 μ-loop chunk used filled line₀ kept p₀ k₀ line p k = filled - p
 
--- src/main.rt:41:5
 loop-holds : tie.Need-loop-holds Inv-loop μ-loop
 loop-holds c = c .pre
 
--- src/main.rt:42:17
 element-copy-out-b : tie.Need-element-copy-out-b Inv-loop μ-loop
 element-copy-out-b c = search needs
 
--- src/main.rt:43:9
 add-p : tie.Need-add-p Inv-loop μ-loop
 add-p c = search needs
 
--- src/main.rt:45:13
 returns : tie.Need-returns Inv-loop μ-loop
-returns c = record { within = omega (arith, c .before .before .loop-test .taken); chunk = c .before .before .before .loop .inv .chunk; line = c .before .before .before .loop .inv .line }
+returns c =
+    record { within = omega (arith, c .before .before .loop-test .taken); chunk = c .before .before .before .loop .inv .chunk; line = c .before .before .before .loop .inv .line }
 
--- src/main.rt:51:9
 keep-requires : tie.Need-keep-requires Inv-loop μ-loop
-keep-requires c κs = record { within = omega arith; chunk = omega arith; line = c .before .before .before .before .loop .inv .line }
+keep-requires c κs =
+    record { within = omega arith; chunk = omega arith; line = c .before .before .before .before .loop .inv .line }
 
--- src/main.rt:41:5
 loop-less : tie.Need-loop-less Inv-loop μ-loop
 loop-less c = search needs
 
--- src/main.rt:41:5
 loop-again : tie.Need-loop-again Inv-loop μ-loop
-loop-again c = record { within = omega (arith, c .before .before .before .before .loop-test .taken); chunk = c .before .before .before .before .before .loop .inv .chunk; line = c .keep .ensures .line }
+loop-again c =
+    record { within = omega (arith, c .before .before .before .before .loop-test .taken); chunk = c .before .before .before .before .before .loop .inv .chunk; line = c .keep .ensures .line }
 
--- src/main.rt:35:1
 returns-2 : tie.Need-returns-2 Inv-loop μ-loop
 returns-2 c = c .before .loop .inv
 

@@ -11,14 +11,17 @@ clear-requires : tie.Need-clear-requires
 clear-requires c κs = search needs
 
 turn-requires : tie.Need-turn-requires
-turn-requires c κs = room-to-turn _ _ _ _ _ _ (c .before .before .before .before .before .before .before .before .before .before .before .before .before .before .before .before .before .before .before .before .before .before .pre)
+turn-requires c κs =
+    let start = c .before .before .before .before .before .before .before .before .before .before .before .before .before .before .before .before .before .before .before .before .before .before in
+    room-to-turn _ _ _ _ _ _ (start .pre)
 
 prune-requires : tie.Need-prune-requires
 prune-requires c κs =
     let start = c .before .before .before .before .before .before .before .before .before .before .before .before .before .before .before .before .before .before .before .before .before .before .before .before .before .before .before .before .before .before .before .before .before .before .before in
     let the-fill-bytes = c .before .before .before .before .before .before .before .before .before .before .before .before .before .before .before .before .before .before .before .before .before .before .fill-bytes in
     let the-clear = c .before .before .before .before .before .before .before .before .before .before .before .before .before .before .before .before .before .before .clear in
-    let the-turn = c .before .before .before .before .before .before .before .before .before .before .before .before .turn in (
+    let the-turn = c .before .before .before .before .before .before .before .before .before .before .before .before .turn in
+    let the-turn = the-turn in (
       ready-to-prune _ _ _ _ _ _ (start .pre) _ _ _ _ (the-turn .ensures) (the-turn .kept .1 .1 .1 .0) (the-fill-bytes .kept .0),
       (
         start .pre .k-right,

@@ -39,7 +39,9 @@ same-length-6 : tie.Need-same-length-6
 same-length-6 c = search needs
 
 returns : tie.Need-returns
-returns c = ((search needs, search needs, search needs), (c .before .before .before .before .before .before .before .before .before .before .fill-bytes .ensures, search needs, search needs))
+returns c =
+    let the-fill-bytes = c .before .before .before .before .before .before .before .before .before .before .fill-bytes in
+    ((search needs, search needs, search needs), (the-fill-bytes .ensures, search needs, search needs))
 
 pub clear-work-spec : {M : Type 1} → statement M
 clear-work-spec =

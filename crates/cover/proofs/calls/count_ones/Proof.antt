@@ -3,9 +3,9 @@ use Rattle.road.specs.Counting.{times}
 use lib.Seq.{take-all}
 use lib.ListN.{length, take}
 use mathlib.Core.Logic.{⊎-elim}
-use mathlib.Core.Path.{_≡_, refl, sym, ap, subst, _∙_}
+use mathlib.Core.Path.{_≡_, ap, _∙_}
 use native.Mathlib.Omega.{arith}
-use Prim.Native.Nat.{ℕ, suc, _+_, _-_, _≤_, _<_}
+use Prim.Native.Nat.{_-_, _≤_}
 use borrow.Author.Needs.{needs}
 use Rattle.cover.proofs.calls.count_ones.Statement.{statement}
 use Rattle.cover.proofs.calls.count_ones.Tie as tie
@@ -34,9 +34,10 @@ loop-less c = search needs
 loop-again : tie.Need-loop-again Inv-loop μ-loop
 loop-again c =
     let start = c .before .before .before .before in
+    let the-loop = c .before .before .before .loop in
     ⊎-elim
-    (λ w. (omega (arith, c .before .before .before .loop .inv .0, times-met (start .args .s .now) (c .before .before .before .loop .i) 1 (c .before .before .loop-test .taken) (w .0 .taken)), omega arith, omega arith))
-    (λ w. (omega (arith, c .before .before .before .loop .inv .0, times-missed (start .args .s .now) (c .before .before .before .loop .i) 1 (c .before .before .loop-test .taken) (w .0 .left)), omega arith, omega arith))
+    (λ w. (omega (arith, the-loop .inv .0, times-met (start .args .s .now) (the-loop .i) 1 (c .before .before .loop-test .taken) (w .0 .taken)), omega arith, omega arith))
+    (λ w. (omega (arith, the-loop .inv .0, times-missed (start .args .s .now) (the-loop .i) 1 (c .before .before .loop-test .taken) (w .0 .left)), omega arith, omega arith))
     (c .if1 .came)
 
 returns : tie.Need-returns Inv-loop μ-loop

@@ -32,7 +32,8 @@ spread-requires : tie.Need-spread-requires
 spread-requires c κs =
     let start = c .before .before .before .before .before .before .before .before .before .before .before .before .before .before .before in
     let the-wide = c .before .before .before .before .wide in
-    (still-prunable _ _ _ _ _ _ _ (start .args .sizes .now) (start .pre .0) (start .args .pieces .now) _ (start .pre .1 .1 .0) _ _ (start .pre .1 .1 .1 .0) (start .pre .1 .1 .1 .1) _ _ _ (the-wide .ensures) (c .before .before .before .wide2 .ensures) (omega arith), drop-spreads _ _ _ _ _ _ _ (start .args .sizes .now) (start .pre .0) (start .args .pieces .now) _ (start .pre .1 .1 .0) _ _ (start .pre .1 .1 .1 .0) (start .pre .1 .1 .1 .1) _ _ _ (the-wide .ensures) (c .before .before .before .wide2 .ensures) (omega arith) _ refl)
+    let the-wide2 = c .before .before .before .wide2 in
+    (still-prunable _ _ _ _ _ _ _ (start .args .sizes .now) (start .pre .0) (start .args .pieces .now) _ (start .pre .1 .1 .0) _ _ (start .pre .1 .1 .1 .0) (start .pre .1 .1 .1 .1) _ _ _ (the-wide .ensures) (the-wide2 .ensures) (omega arith), drop-spreads _ _ _ _ _ _ _ (start .args .sizes .now) (start .pre .0) (start .args .pieces .now) _ (start .pre .1 .1 .0) _ _ (start .pre .1 .1 .1 .0) (start .pre .1 .1 .1 .1) _ _ _ (the-wide .ensures) (the-wide2 .ensures) (omega arith) _ refl)
 
 same-length : tie.Need-same-length
 same-length c = search needs

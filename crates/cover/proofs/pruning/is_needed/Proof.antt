@@ -1,7 +1,7 @@
 use Rattle.trails.proofs.Completing.{needed-told}
 use Rattle.trails.proofs.Searching.{within-of}
 use Rattle.pieces.proofs.Ready.{search-forth, search-back}
-use Rattle.trails.specs.Search.{ends}
+use Rattle.trails.specs.workings.Search.{ends}
 use Rattle.road.proofs.Refusals.{tells-yes}
 use native.Mathlib.Omega.{arith}
 use borrow.Author.Needs.{needs}
@@ -32,8 +32,9 @@ returns c =
     let start = c .before .before .before .before .before .before .before .before .before .before .before .before .before .before in
     let the-of = c .before .before .before .before .before .before .of in
     let the-wide = c .before .before .before .before .wide in
+    let the-longest = c .before .before .before .longest in
     needed-told _ _ _ _ _ _ _ (start .pre .0 .sound) (start .pre .0 .turned .round) _ _ _ (omega (arith, start .pre .0 .bytes, start .pre .1 .1)) (start .pre .1 .0 .some)
-    (tells-yes (ends (record { outward = rw (the-of .ensures .0, the-wide .ensures, c .if1 .taken) at (c .before .before .before .longest .ensures .reached) })))
+    (tells-yes (ends (record { outward = rw (the-of .ensures .0, the-wide .ensures, c .if1 .taken) at (the-longest .ensures .reached) })))
 
 wide-requires-2 : tie.Need-wide-requires-2
 wide-requires-2 c κs = search needs
@@ -46,7 +47,8 @@ inward-requires c κs =
     let start = c .before .before .before .before .before .before .before .before .before .before .before .before .before .before .before .before in
     let the-of = c .before .before .before .before .before .before .before .before .of in
     let the-wide = c .before .before .before .before .before .before .wide in
-    let the-longest = c .before .before .before .before .before .longest in (
+    let the-longest = c .before .before .before .before .before .longest in
+    let the-longest = the-longest in (
       search-forth _ _ _ _ _ _ _ (start .pre .0),
       (
         search-back _ _ _ _ _ _ _ (start .pre .0),

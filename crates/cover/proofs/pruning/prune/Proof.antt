@@ -3,7 +3,7 @@ use native.Mathlib.Omega.{arith}
 use lib.ListN.{length}
 use Rattle.road.specs.Roads.{road}
 use Rattle.rule.specs.Rule.{PathOf}
-use Rattle.pieces.specs.Pieces.{Kept}
+use Rattle.pieces.specs.workings.Pieces.{Kept}
 use Rattle.rule.proofs.Rules.{Going, going-start, going-on, going-end}
 use Rattle.pieces.proofs.Ready.{prunable-still, node-at}
 use borrow.Author.Needs.{needs}
@@ -17,7 +17,9 @@ abbrev μ-loop : tie.MeasureT-loop
 μ-loop starts heads weights starts-back heads-back weights-back k order cover₀ pieces₀ sizes₀ i₀ cover pieces sizes i = length order - i
 
 loop-holds : tie.Need-loop-holds Inv-loop μ-loop
-loop-holds c = (going-start _ _, c .before .before .before .before .before .before .before .before .before .before .pre .1 .1 .0)
+loop-holds c =
+    let start = c .before .before .before .before .before .before .before .before .before .before in
+    (going-start _ _, start .pre .1 .1 .0)
 
 mul-take-node : tie.Need-mul-take-node Inv-loop μ-loop
 mul-take-node c = search needs
@@ -52,10 +54,14 @@ same-length : tie.Need-same-length Inv-loop μ-loop
 same-length c = c .before .loop .inv .0 .long
 
 same-length-2 : tie.Need-same-length-2 Inv-loop μ-loop
-same-length-2 c = omega (arith, c .before .loop .inv .1 .pieces-long, c .before .loop .inv .0 .long, c .before .before .before .before .before .before .before .before .before .before .before .before .pre .1 .1 .0 .pieces-long)
+same-length-2 c =
+    let start = c .before .before .before .before .before .before .before .before .before .before .before .before in
+    omega (arith, c .before .loop .inv .1 .pieces-long, c .before .loop .inv .0 .long, start .pre .1 .1 .0 .pieces-long)
 
 same-length-3 : tie.Need-same-length-3 Inv-loop μ-loop
-same-length-3 c = omega (arith, c .before .loop .inv .1 .sizes-long, c .before .loop .inv .0 .long, c .before .before .before .before .before .before .before .before .before .before .before .before .pre .1 .1 .0 .sizes-long)
+same-length-3 c =
+    let start = c .before .before .before .before .before .before .before .before .before .before .before .before in
+    omega (arith, c .before .loop .inv .1 .sizes-long, c .before .loop .inv .0 .long, start .pre .1 .1 .0 .sizes-long)
 
 returns : tie.Need-returns Inv-loop μ-loop
 returns c = going-end _ _ _ _ (c .before .loop .inv .0) (c .loop-test .left)

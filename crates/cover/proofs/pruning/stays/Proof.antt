@@ -6,7 +6,9 @@ use Rattle.cover.proofs.pruning.stays.Statement.{statement}
 use Rattle.cover.proofs.pruning.stays.Tie as tie
 
 returns : tie.Need-returns
-returns c = tells-no (fits-unneeded (c .before .before .before .before .before .before .before .before .before .before .before .pre .1 .1 .0) (c .if1 .taken))
+returns c =
+    let start = c .before .before .before .before .before .before .before .before .before .before .before in
+    tells-no (fits-unneeded (start .pre .1 .1 .0) (c .if1 .taken))
 
 too-few-requires : tie.Need-too-few-requires
 too-few-requires c κs = search needs

@@ -1,4 +1,4 @@
-use Rattle.rule.specs.Rule.{kept, dropped}
+use Rattle.rule.specs.workings.Taking.{kept, dropped}
 use mathlib.Core.Path.{refl}
 use borrow.Author.Needs.{needs}
 use Rattle.cover.proofs.pruning.take_node.Statement.{statement}
@@ -22,7 +22,9 @@ same-length-3 : tie.Need-same-length-3
 same-length-3 c = search needs
 
 returns : tie.Need-returns
-returns c = (kept (c .before .stays .ensures .yes (c .if1 .taken)) refl, c .before .before .before .before .before .before .before .before .before .before .before .before .before .before .before .before .before .pre .1 .1 .0)
+returns c =
+    let start = c .before .before .before .before .before .before .before .before .before .before .before .before .before .before .before .before .before in
+    (kept (c .before .stays .ensures .yes (c .if1 .taken)) refl, start .pre .1 .1 .0)
 
 drop-node-requires : tie.Need-drop-node-requires
 drop-node-requires c κs =

@@ -9,8 +9,6 @@ use Prim.Native.Nat.{_+_, _-_, _≤_}
 use borrow.Author.Needs.{needs}
 use Rattle.cover.proofs.pruning.too_few.Statement.{statement}
 use Rattle.cover.proofs.pruning.too_few.Tie as tie
-use Rattle.cover.proofs.pruning.too_few.Reads as reads
-use Rattle.cover.proofs.pruning.too_few.Lts as lts
 
 abbrev Inv-loop : tie.InvT-loop
 Inv-loop cover k nodes₀ v₀ nodes v = (nodes ≡ times 0 (take v cover) + 1) × (v ≤ length cover) × (nodes ≤ v + 1)
@@ -18,33 +16,26 @@ Inv-loop cover k nodes₀ v₀ nodes v = (nodes ≡ times 0 (take v cover) + 1) 
 abbrev μ-loop : tie.MeasureT-loop
 μ-loop cover k nodes₀ v₀ nodes v = length cover - v
 
--- src/pruning.rt:65:5
 loop-holds : tie.Need-loop-holds Inv-loop μ-loop
 loop-holds c = (omega arith, omega arith, omega arith)
 
--- src/pruning.rt:67:13
 returns : tie.Need-returns Inv-loop μ-loop
 returns c =
     let start = c .before .before .before .before in
     enough (start .args .cover .now) (start .args .k .0)
 
--- src/pruning.rt:69:12
 shared-slice-read-if2 : tie.Need-shared-slice-read-if2 Inv-loop μ-loop
 shared-slice-read-if2 c = search needs
 
--- src/pruning.rt:70:13
 add-nodes : tie.Need-add-nodes Inv-loop μ-loop
 add-nodes c = search needs
 
--- src/pruning.rt:72:9
 add-v : tie.Need-add-v Inv-loop μ-loop
 add-v c = search needs
 
--- src/pruning.rt:65:5
 loop-less : tie.Need-loop-less Inv-loop μ-loop
 loop-less c = search needs
 
--- src/pruning.rt:65:5
 loop-again : tie.Need-loop-again Inv-loop μ-loop
 loop-again c =
     let start = c .before .before .before .before .before .before in
@@ -55,13 +46,12 @@ loop-again c =
     (λ w. (omega (arith, the-loop .inv .0, times-missed (start .args .cover .now) (the-loop .v) 0 (the-loop-test .taken) (w .0 .left)), omega arith, omega arith))
     (c .if2 .came)
 
--- src/pruning.rt:75:9
 returns-2 : tie.Need-returns-2 Inv-loop μ-loop
 returns-2 c =
     let start = c .before .before .before .before in
-    counted-few (start .args .cover .now) (start .args .k .0) (c .before .before .before .loop .nodes) (c .before .before .before .loop .v) (c .before .before .before .loop .inv .0) (omega (arith, c .before .before .loop-test .left)) (c .if3 .taken)
+    let the-loop = c .before .before .before .loop in
+    counted-few (start .args .cover .now) (start .args .k .0) (the-loop .nodes) (the-loop .v) (the-loop .inv .0) (omega (arith, c .before .before .loop-test .left)) (c .if3 .taken)
 
--- src/pruning.rt:60:1
 returns-3 : tie.Need-returns-3 Inv-loop μ-loop
 returns-3 c =
     let start = c .before .before .before .before in

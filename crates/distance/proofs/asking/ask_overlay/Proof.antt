@@ -1,65 +1,47 @@
-use mathlib.Core.Path.{_≡_, sym, _∙_}
+use mathlib.Core.Path.{sym, _∙_}
 use Rattle.distance.proofs.Telling.{told-at}
 use Rattle.distance.proofs.Searches.{asks-of, row-any}
 use Rattle.distance.proofs.Asked.{hand-searchable, hand-zero}
 use borrow.Author.Needs.{needs}
 use Rattle.distance.proofs.asking.ask_overlay.Statement.{statement}
 use Rattle.distance.proofs.asking.ask_overlay.Tie as tie
-use Rattle.distance.proofs.asking.ask_overlay.Reads as reads
-use Rattle.distance.proofs.asking.ask_overlay.Lts as lts
-use Rattle.distance.proofs.asking.clear_queue.Reads as clear-queue-reads
-use Rattle.distance.proofs.sums.shown.Reads as shown-reads
-use Rattle.search.proofs.clear_labels.Reads as clear-labels-reads
-use Rattle.search.proofs.search.Reads as search-reads
 
--- src/asking.rt:67:5
 clear-queue-requires : tie.Need-clear-queue-requires
 clear-queue-requires c κs = search needs
 
--- src/asking.rt:68:5
 search-requires : tie.Need-search-requires
 search-requires c κs =
     let start = c .before .before .before .before .before .before .before .before .before .before .before .before .before .before .before .before .before .before .before .before .before .before .before .before .before in
     let the-clear-queue = c .before .before .before .before .before .before .before .before .before .before .before .before .clear-queue in
     asks-of _ _ _ _ _ _ _ (hand-searchable _ _ _ _ _ _ (start .pre) _ _ _ (the-clear-queue .ensures .0) (the-clear-queue .ensures .1) (the-clear-queue .ensures .3)) _ (start .pre .from)
 
--- src/asking.rt:69:23
 mul-shown : tie.Need-mul-shown
 mul-shown c = search needs
 
--- src/asking.rt:69:23
 slice-read-shown : tie.Need-slice-read-shown
 slice-read-shown c = search needs
 
--- src/asking.rt:69:9
 shown-requires : tie.Need-shown-requires
 shown-requires c κs = search needs
 
--- src/asking.rt:70:5
 clear-labels-requires : tie.Need-clear-labels-requires
 clear-labels-requires c κs = search needs
 
--- src/asking.rt:51:1
 same-length : tie.Need-same-length
 same-length c = search needs
 
--- src/asking.rt:51:1
 same-length-2 : tie.Need-same-length-2
 same-length-2 c = search needs
 
--- src/asking.rt:51:1
 same-length-3 : tie.Need-same-length-3
 same-length-3 c = search needs
 
--- src/asking.rt:51:1
 same-length-4 : tie.Need-same-length-4
 same-length-4 c = search needs
 
--- src/asking.rt:51:1
 same-length-5 : tie.Need-same-length-5
 same-length-5 c = search needs
 
--- src/asking.rt:51:1
 returns : tie.Need-returns
 returns c =
     let start = c .before .before .before .before .before .before .before .before .before .before .before .before .before .before .before .before .before .before .before .before .before .before .before .before .before .before .before .before .before .before .before .before .before .before .before .before .before .before in

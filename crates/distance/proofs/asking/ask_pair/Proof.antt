@@ -1,48 +1,33 @@
-use borrow.Author.Needs.{scaled-fits}
 use native.Mathlib.Omega.{arith}
-use mathlib.Core.Path.{_≡_, sym, _∙_}
+use mathlib.Core.Path.{_∙_}
 use Rattle.distance.proofs.Asked.{node-in, rows-asked, lent-searchable, rows-lent, pair-answer, pair-zero}
 use borrow.Author.Needs.{needs}
 use Rattle.distance.proofs.asking.ask_pair.Statement.{statement}
 use Rattle.distance.proofs.asking.ask_pair.Tie as tie
-use Rattle.distance.proofs.asking.ask_pair.Reads as reads
-use Rattle.distance.proofs.asking.ask_pair.Lts as lts
-use Rattle.distance.proofs.asking.clear_queue.Reads as clear-queue-reads
-use Rattle.distance.proofs.asking.clear_rows.Reads as clear-rows-reads
-use Rattle.distance.proofs.asking.find_rows.Reads as find-rows-reads
-use Rattle.distance.proofs.sums.lesser.Reads as lesser-reads
-use Rattle.distance.proofs.sums.shown.Reads as shown-reads
-use Rattle.distance.proofs.through.through_overlay.Reads as through-overlay-reads
 
--- src/asking.rt:141:5
 clear-queue-requires : tie.Need-clear-queue-requires
 clear-queue-requires c κs = search needs
 
--- src/asking.rt:142:5
 find-rows-requires : tie.Need-find-rows-requires
 find-rows-requires c κs =
     let start = c .before .before .before .before .before .before .before .before .before .before .before .before .before .before .before .before .before .before .before .before .before .before .before .before .before .before .before .before .before .before .before .before .before .before .before .before .before in
     let the-clear-queue = c .before .before .before .before .before .before .before .before .before .before .before .before .before .before .before .clear-queue in
     rows-asked _ _ _ _ _ _ _ _ _ _ (start .pre) _ _ (the-clear-queue .ensures .0) (the-clear-queue .ensures .1)
 
--- src/asking.rt:157:24
 mul-shown : tie.Need-mul-shown
 mul-shown c =
     let start = c .before .before .before .before .before .before .before .before .before .before .before .before .before .before .before .before .before .before .before .before .before .before .before .before .before .before .before .before .before .before .before .before .before .before .before .before .before .before .before .before .before .before .before .before .before .before .before .before .before .before .before .before in
     omega (arith, start .pre .to, start .pre .sound .sized .most)
 
--- src/asking.rt:157:24
 slice-read-shown : tie.Need-slice-read-shown
 slice-read-shown c =
     let start = c .before .before .before .before .before .before .before .before .before .before .before .before .before .before .before .before .before .before .before .before .before .before .before .before .before .before .before .before .before .before .before .before .before .before .before .before .before .before .before .before .before .before .before .before .before .before .before .before .before .before .before .before .before in
     let the-find-rows = c .before .before .before .before .before .before .before .before .before .before .before .before .before .before .before .find-rows in
     node-in _ _ _ _ (start .pre .to) (the-find-rows .kept .1 .1 .1 .1 .1 .1 .1 .1 .1 .0) (start .pre .outward-long)
 
--- src/asking.rt:157:9
 shown-requires : tie.Need-shown-requires
 shown-requires c κs = search needs
 
--- src/asking.rt:158:9
 through-overlay-requires : tie.Need-through-overlay-requires
 through-overlay-requires c κs =
     let start = c .before .before .before .before .before .before .before .before .before .before .before .before .before .before .before .before .before .before .before .before .before .before .before .before .before .before .before .before .before .before .before .before .before .before .before .before .before .before .before .before .before .before .before .before .before .before .before .before .before .before .before .before .before .before .before .before .before .before .before .before in
@@ -50,57 +35,48 @@ through-overlay-requires c κs =
     let the-find-rows = c .before .before .before .before .before .before .before .before .before .before .before .before .before .before .before .before .before .before .before .before .before .before .find-rows in
     (lent-searchable _ _ _ _ _ _ _ _ _ _ (start .pre) _ _ _ (the-find-rows .ensures .1 .0 ∙ the-clear-queue .ensures .0) (the-find-rows .ensures .1 .1 ∙ the-clear-queue .ensures .1) (the-clear-queue .ensures .3), rows-lent _ _ _ _ _ _ _ _ _ _ (start .pre) _ _ (the-find-rows .ensures .0) (the-find-rows .kept .1 .1 .1 .1 .1 .1 .1 .1 .1 .0) (the-find-rows .kept .1 .1 .1 .1 .1 .1 .1 .1 .1 .1 .0))
 
--- src/asking.rt:172:5
 clear-rows-requires : tie.Need-clear-rows-requires
 clear-rows-requires c κs = search needs
 
--- src/asking.rt:173:5
 lesser-requires : tie.Need-lesser-requires
 lesser-requires c κs = search needs
 
--- src/asking.rt:116:1
 same-length : tie.Need-same-length
 same-length c =
     let the-find-rows = c .before .before .before .before .before .before .before .before .before .before .before .before .before .before .before .before .before .before .before .before .before .before .before .before .before .before .before .before .before .before .before .before .before .before .before .before .before .before .before .before .before .before .before .before .before .before .before .before .before .find-rows in
     let the-clear-rows = c .before .before .before .before .before .before .before .before .before .before .before .before .before .clear-rows in
     omega (arith, the-clear-rows .kept .0, the-find-rows .kept .1 .1 .1 .1 .1 .1 .0)
 
--- src/asking.rt:116:1
 same-length-2 : tie.Need-same-length-2
 same-length-2 c =
     let the-find-rows = c .before .before .before .before .before .before .before .before .before .before .before .before .before .before .before .before .before .before .before .before .before .before .before .before .before .before .before .before .before .before .before .before .before .before .before .before .before .before .before .before .before .before .before .before .before .before .before .before .before .find-rows in
     let the-clear-rows = c .before .before .before .before .before .before .before .before .before .before .before .before .before .clear-rows in
     omega (arith, the-clear-rows .kept .1 .0, the-find-rows .kept .1 .1 .1 .1 .1 .1 .1 .0)
 
--- src/asking.rt:116:1
 same-length-3 : tie.Need-same-length-3
 same-length-3 c =
     let the-find-rows = c .before .before .before .before .before .before .before .before .before .before .before .before .before .before .before .before .before .before .before .before .before .before .before .before .before .before .before .before .before .before .before .before .before .before .before .before .before .before .before .before .before .before .before .before .before .before .before .before .before .find-rows in
     let the-clear-rows = c .before .before .before .before .before .before .before .before .before .before .before .before .before .clear-rows in
     omega (arith, the-clear-rows .kept .1 .1 .0, the-find-rows .kept .1 .1 .1 .1 .1 .1 .1 .1 .0)
 
--- src/asking.rt:116:1
 same-length-4 : tie.Need-same-length-4
 same-length-4 c =
     let the-find-rows = c .before .before .before .before .before .before .before .before .before .before .before .before .before .before .before .before .before .before .before .before .before .before .before .before .before .before .before .before .before .before .before .before .before .before .before .before .before .before .before .before .before .before .before .before .before .before .before .before .before .find-rows in
     let the-clear-rows = c .before .before .before .before .before .before .before .before .before .before .before .before .before .clear-rows in
     omega (arith, the-clear-rows .kept .1 .1 .1 .0, the-find-rows .kept .1 .1 .1 .1 .1 .1 .1 .1 .1 .0)
 
--- src/asking.rt:116:1
 same-length-5 : tie.Need-same-length-5
 same-length-5 c =
     let the-find-rows = c .before .before .before .before .before .before .before .before .before .before .before .before .before .before .before .before .before .before .before .before .before .before .before .before .before .before .before .before .before .before .before .before .before .before .before .before .before .before .before .before .before .before .before .before .before .before .before .before .before .find-rows in
     let the-clear-rows = c .before .before .before .before .before .before .before .before .before .before .before .before .before .clear-rows in
     omega (arith, the-clear-rows .kept .1 .1 .1 .1 .0, the-find-rows .kept .1 .1 .1 .1 .1 .1 .1 .1 .1 .1 .0)
 
--- src/asking.rt:116:1
 same-length-6 : tie.Need-same-length-6
 same-length-6 c =
     let the-through-overlay = c .before .before .before .before .before .before .before .before .before .before .before .before .before .before .before .before .before .before .before .before .before .before .before .before .before .before .through-overlay in
     let the-clear-rows = c .before .before .before .before .before .before .before .before .before .before .before .before .before .clear-rows in
     omega (arith, the-clear-rows .kept .1 .1 .1 .1 .1 .0, the-through-overlay .kept .1 .1 .1 .1 .1 .1 .1 .1 .1 .0)
 
--- src/asking.rt:116:1
 same-length-7 : tie.Need-same-length-7
 same-length-7 c =
     let the-clear-queue = c .before .before .before .before .before .before .before .before .before .before .before .before .before .before .before .before .before .before .before .before .before .before .before .before .before .before .before .before .before .before .before .before .before .before .before .before .before .before .before .before .before .before .before .before .before .before .before .before .before .before .before .before .before .before .before .before .before .before .before .before .before .before .before .before .before .clear-queue in
@@ -108,7 +84,6 @@ same-length-7 c =
     let the-through-overlay = c .before .before .before .before .before .before .before .before .before .before .before .before .before .before .before .before .before .before .before .before .before .before .before .before .before .before .through-overlay in
     omega (arith, the-through-overlay .kept .1 .1 .1 .1 .1 .1 .1 .1 .1 .1 .0, the-find-rows .kept .1 .1 .1 .1 .1 .1 .1 .1 .1 .1 .1 .0, the-clear-queue .kept .0)
 
--- src/asking.rt:116:1
 same-length-8 : tie.Need-same-length-8
 same-length-8 c =
     let the-clear-queue = c .before .before .before .before .before .before .before .before .before .before .before .before .before .before .before .before .before .before .before .before .before .before .before .before .before .before .before .before .before .before .before .before .before .before .before .before .before .before .before .before .before .before .before .before .before .before .before .before .before .before .before .before .before .before .before .before .before .before .before .before .before .before .before .before .before .clear-queue in
@@ -116,19 +91,16 @@ same-length-8 c =
     let the-through-overlay = c .before .before .before .before .before .before .before .before .before .before .before .before .before .before .before .before .before .before .before .before .before .before .before .before .before .before .through-overlay in
     omega (arith, the-through-overlay .kept .1 .1 .1 .1 .1 .1 .1 .1 .1 .1 .1 .0, the-find-rows .kept .1 .1 .1 .1 .1 .1 .1 .1 .1 .1 .1 .1 .0, the-clear-queue .kept .1 .0)
 
--- src/asking.rt:116:1
 same-length-9 : tie.Need-same-length-9
 same-length-9 c =
     let the-clear-queue = c .before .before .before .before .before .before .before .before .before .before .before .before .before .before .before .before .before .before .before .before .before .before .before .before .before .before .before .before .before .before .before .before .before .before .before .before .before .before .before .before .before .before .before .before .before .before .before .before .before .before .before .before .before .before .before .before .before .before .before .before .before .before .before .before .before .clear-queue in
     omega (arith, the-clear-queue .kept .1 .1 .0)
 
--- src/asking.rt:116:1
 same-length-10 : tie.Need-same-length-10
 same-length-10 c =
     let the-clear-queue = c .before .before .before .before .before .before .before .before .before .before .before .before .before .before .before .before .before .before .before .before .before .before .before .before .before .before .before .before .before .before .before .before .before .before .before .before .before .before .before .before .before .before .before .before .before .before .before .before .before .before .before .before .before .before .before .before .before .before .before .before .before .before .before .before .before .clear-queue in
     omega (arith, the-clear-queue .kept .1 .1 .1 .0)
 
--- src/asking.rt:116:1
 returns : tie.Need-returns
 returns c =
     let start = c .before .before .before .before .before .before .before .before .before .before .before .before .before .before .before .before .before .before .before .before .before .before .before .before .before .before .before .before .before .before .before .before .before .before .before .before .before .before .before .before .before .before .before .before .before .before .before .before .before .before .before .before .before .before .before .before .before .before .before .before .before .before .before .before .before .before .before .before .before .before .before .before .before .before .before .before .before .before .before .before .before .before .before .before .before .before .before in

@@ -1,22 +1,15 @@
-use mathlib.Core.Path.{_≡_, sym, _∙_}
+use mathlib.Core.Path.{_∙_}
 use Rattle.distance.proofs.Asked.{asks-back, rows-found}
 use borrow.Author.Needs.{needs}
 use Rattle.distance.proofs.asking.find_rows.Statement.{statement}
 use Rattle.distance.proofs.asking.find_rows.Tie as tie
-use Rattle.distance.proofs.asking.find_rows.Reads as reads
-use Rattle.distance.proofs.asking.find_rows.Lts as lts
-use Rattle.turning.proofs.turn.Reads as turn-reads
-use Rattle.search.proofs.search.Reads as search-reads
 
--- src/asking.rt:94:5
 turn-requires : tie.Need-turn-requires
 turn-requires c κs = search needs
 
--- src/asking.rt:102:5
 search-requires : tie.Need-search-requires
 search-requires c κs = search needs
 
--- src/asking.rt:103:5
 search-requires-2 : tie.Need-search-requires-2
 search-requires-2 c κs =
     let start = c .before .before .before .before .before .before .before .before .before .before .before .before .before .before .before .before .before .before .before .before .before .before .before .before .before .before .before .before .before .before .before .before .before .before .before .before .before in
@@ -24,35 +17,27 @@ search-requires-2 c κs =
     let the-search = c .before .before .before .before .before .before .before .before .before .before .before .before .search in
     asks-back _ _ _ _ _ _ _ _ _ _ _ _ _ (start .pre) _ _ _ (the-turn .ensures) (the-turn .kept .1 .1 .1 .0) _ _ (the-search .ensures .1 .0) (the-search .ensures .1 .1)
 
--- src/asking.rt:75:1
 same-length : tie.Need-same-length
 same-length c = search needs
 
--- src/asking.rt:75:1
 same-length-2 : tie.Need-same-length-2
 same-length-2 c = search needs
 
--- src/asking.rt:75:1
 same-length-3 : tie.Need-same-length-3
 same-length-3 c = search needs
 
--- src/asking.rt:75:1
 same-length-4 : tie.Need-same-length-4
 same-length-4 c = search needs
 
--- src/asking.rt:75:1
 same-length-5 : tie.Need-same-length-5
 same-length-5 c = search needs
 
--- src/asking.rt:75:1
 same-length-6 : tie.Need-same-length-6
 same-length-6 c = search needs
 
--- src/asking.rt:75:1
 same-length-7 : tie.Need-same-length-7
 same-length-7 c = search needs
 
--- src/asking.rt:75:1
 returns : tie.Need-returns
 returns c =
     let start = c .before .before .before .before .before .before .before .before .before .before .before .before .before .before .before .before .before .before .before .before .before .before .before .before .before .before .before .before .before .before .before .before .before .before .before .before .before .before .before .before .before .before .before .before in

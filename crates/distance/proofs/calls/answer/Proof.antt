@@ -1,26 +1,20 @@
-use mathlib.Core.Path.{_≡_, ap, sym}
-use Rattle.distance.specs.Calls.{saidLabel}
-use Rattle.distance.specs.Labels.{labelOf}
+use mathlib.Core.Path.{ap, sym}
+use Rattle.distance.specs.workings.Ready.{saidLabel}
+use Rattle.distance.specs.workings.Labels.{labelOf}
 use Rattle.distance.specs.declared.Distance.{Distance}
 use borrow.Author.Needs.{needs}
 use Rattle.distance.proofs.calls.answer.Statement.{statement}
 use Rattle.distance.proofs.calls.answer.Tie as tie
-use Rattle.distance.proofs.calls.answer.Reads as reads
-use Rattle.distance.proofs.calls.answer.Lts as lts
 
--- src/calls.rt:26:23
 enum-known-d : tie.Need-enum-known-d
 enum-known-d c = search needs
 
--- src/calls.rt:27:28
 enum-told : tie.Need-enum-told
 enum-told c = search needs
 
--- src/calls.rt:22:1
 returns : tie.Need-returns
 returns c = ap (λ (x : Distance). saidLabel (labelOf x)) (sym (c .before .d .given .1))
 
--- src/calls.rt:22:1
 returns-2 : tie.Need-returns-2
 returns-2 c = ap (λ (x : Distance). saidLabel (labelOf x)) (sym (c .enum-told .given .1))
 

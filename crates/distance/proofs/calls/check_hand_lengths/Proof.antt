@@ -3,34 +3,25 @@ use Rattle.road.proofs.Refusals.{refuses, passes}
 use borrow.Author.Needs.{needs}
 use Rattle.distance.proofs.calls.check_hand_lengths.Statement.{statement}
 use Rattle.distance.proofs.calls.check_hand_lengths.Tie as tie
-use Rattle.distance.proofs.calls.check_hand_lengths.Reads as reads
-use Rattle.distance.proofs.calls.check_hand_lengths.Lts as lts
 
--- src/calls.rt:44:9
 returns : tie.Need-returns
 returns c = refuses (inl (c .if1 .taken))
 
--- src/calls.rt:46:22
 mul-if2 : tie.Need-mul-if2
 mul-if2 c = search needs
 
--- src/calls.rt:47:9
 returns-2 : tie.Need-returns-2
 returns-2 c = refuses (inr (inl (c .if2 .taken)))
 
--- src/calls.rt:50:9
 returns-3 : tie.Need-returns-3
 returns-3 c = refuses (inr (inr (inl (c .if3 .taken))))
 
--- src/calls.rt:53:9
 returns-4 : tie.Need-returns-4
 returns-4 c = refuses (inr (inr (inr (inl (c .if4 .taken)))))
 
--- src/calls.rt:56:9
 returns-5 : tie.Need-returns-5
 returns-5 c = refuses (inr (inr (inr (inr (inl (c .if5 .taken))))))
 
--- src/calls.rt:32:1
 returns-6 : tie.Need-returns-6
 returns-6 c =
     let the-if1 = c .before .before .before .before .before .before .before .before .if1 in

@@ -3,34 +3,25 @@ use Rattle.road.proofs.Refusals.{refuses, passes}
 use borrow.Author.Needs.{needs}
 use Rattle.distance.proofs.calls.check_row_lengths.Statement.{statement}
 use Rattle.distance.proofs.calls.check_row_lengths.Tie as tie
-use Rattle.distance.proofs.calls.check_row_lengths.Reads as reads
-use Rattle.distance.proofs.calls.check_row_lengths.Lts as lts
 
--- src/calls.rt:74:29
 add-if1 : tie.Need-add-if1
 add-if1 c = search needs
 
--- src/calls.rt:75:9
 returns : tie.Need-returns
 returns c = refuses (inl (c .if1 .taken))
 
--- src/calls.rt:78:9
 returns-2 : tie.Need-returns-2
 returns-2 c = refuses (inr (inl (c .if2 .taken)))
 
--- src/calls.rt:81:9
 returns-3 : tie.Need-returns-3
 returns-3 c = refuses (inr (inr (inl (c .if3 .taken))))
 
--- src/calls.rt:84:9
 returns-4 : tie.Need-returns-4
 returns-4 c = refuses (inr (inr (inr (inl (c .if4 .taken)))))
 
--- src/calls.rt:87:9
 returns-5 : tie.Need-returns-5
 returns-5 c = refuses (inr (inr (inr (inr (inl (c .if5 .taken))))))
 
--- src/calls.rt:62:1
 returns-6 : tie.Need-returns-6
 returns-6 c =
     let the-if1 = c .before .before .before .before .before .before .before .before .if1 in

@@ -2,79 +2,61 @@ use Rattle.distance.proofs.Outcomes.{hand-few, hand-refused-early, hand
 use borrow.Author.Needs.{needs}
 use Rattle.distance.proofs.calls.handheld.Statement.{statement}
 use Rattle.distance.proofs.calls.handheld.Tie as tie
-use Rattle.distance.proofs.calls.handheld.Reads as reads
-use Rattle.distance.proofs.calls.handheld.Lts as lts
-use Rattle.distance.proofs.asking.ask_overlay.Reads as ask-overlay-reads
-use Rattle.distance.proofs.calls.answer.Reads as answer-reads
-use Rattle.distance.proofs.calls.check_hand_lengths.Reads as check-hand-lengths-reads
-use Rattle.distance.proofs.checking.check_hand_input.Reads as check-hand-input-reads
-use Rattle.road.proofs.wide.Reads as wide-reads
 
--- src/calls.rt:109:9
 check-hand-input-requires : tie.Need-check-hand-input-requires
 check-hand-input-requires c κs = search needs
 
--- src/calls.rt:110:29
 enum-known-input : tie.Need-enum-known-input
 enum-known-input c = search needs
 
--- src/calls.rt:111:9
 returns : tie.Need-returns
-returns c = hand-refused-early _ _ _ _ _ _ _ _ _ (c .before .before .before .check-hand-input .ensures) (c .before .input .given .1)
+returns c =
+    let the-check-hand-input = c .before .before .before .check-hand-input in
+    hand-refused-early _ _ _ _ _ _ _ _ _ (the-check-hand-input .ensures) (c .before .input .given .1)
 
 enum-told : tie.Need-enum-told
 enum-told c = search needs
 
--- src/calls.rt:113:9
 check-hand-lengths-requires : tie.Need-check-hand-lengths-requires
 check-hand-lengths-requires c κs =
     let the-check-hand-input = c .before .before .before .before .before .before .before .check-hand-input in
     let the-enum-told = c .before .before .before .before .before .enum-told in
     hand-few _ _ _ _ _ _ _ (the-check-hand-input .ensures) (the-enum-told .given .1)
 
--- src/calls.rt:121:29
 enum-known-lengths : tie.Need-enum-known-lengths
 enum-known-lengths c = search needs
 
--- src/calls.rt:122:9
 same-length : tie.Need-same-length
 same-length c = search needs
 
--- src/calls.rt:122:9
 same-length-2 : tie.Need-same-length-2
 same-length-2 c = search needs
 
--- src/calls.rt:122:9
 same-length-3 : tie.Need-same-length-3
 same-length-3 c = search needs
 
--- src/calls.rt:122:9
 same-length-4 : tie.Need-same-length-4
 same-length-4 c = search needs
 
--- src/calls.rt:122:9
 same-length-5 : tie.Need-same-length-5
 same-length-5 c = search needs
 
--- src/calls.rt:122:9
 returns-2 : tie.Need-returns-2
 returns-2 c =
     let the-check-hand-input = c .before .before .before .before .before .before .before .before .before .before .before .check-hand-input in
     let the-enum-told = c .before .before .before .before .before .before .before .before .before .enum-told in
-    hand-refused-late _ _ _ _ _ _ _ _ (the-check-hand-input .ensures) (the-enum-told .given .1) _ (c .before .before .before .check-hand-lengths .ensures) _ (c .before .lengths .given .1)
+    let the-check-hand-lengths = c .before .before .before .check-hand-lengths in
+    hand-refused-late _ _ _ _ _ _ _ _ (the-check-hand-input .ensures) (the-enum-told .given .1) _ (the-check-hand-lengths .ensures) _ (c .before .lengths .given .1)
 
 enum-told-2 : tie.Need-enum-told-2
 enum-told-2 c = search needs
 
--- src/calls.rt:128:9
 wide-requires : tie.Need-wide-requires
 wide-requires c κs = search needs
 
--- src/calls.rt:129:9
 wide-requires-2 : tie.Need-wide-requires-2
 wide-requires-2 c κs = search needs
 
--- src/calls.rt:124:9
 ask-overlay-requires : tie.Need-ask-overlay-requires
 ask-overlay-requires c κs =
     let the-check-hand-input = c .before .before .before .before .before .before .before .before .before .before .before .before .before .before .before .before .before .check-hand-input in
@@ -85,31 +67,24 @@ ask-overlay-requires c κs =
     let the-wide2 = c .before .before .before .before .before .wide2 in
     hand-ready _ _ _ _ _ _ _ _ (the-check-hand-input .ensures) (the-enum-told .given .1) _ (the-check-hand-lengths .ensures) (the-enum-told2 .given .1) _ _ (the-wide .ensures) (the-wide2 .ensures)
 
--- src/calls.rt:136:5
 answer-requires : tie.Need-answer-requires
 answer-requires c κs = search needs
 
--- src/calls.rt:94:1
 same-length-6 : tie.Need-same-length-6
 same-length-6 c = search needs
 
--- src/calls.rt:94:1
 same-length-7 : tie.Need-same-length-7
 same-length-7 c = search needs
 
--- src/calls.rt:94:1
 same-length-8 : tie.Need-same-length-8
 same-length-8 c = search needs
 
--- src/calls.rt:94:1
 same-length-9 : tie.Need-same-length-9
 same-length-9 c = search needs
 
--- src/calls.rt:94:1
 same-length-10 : tie.Need-same-length-10
 same-length-10 c = search needs
 
--- src/calls.rt:94:1
 returns-3 : tie.Need-returns-3
 returns-3 c =
     let the-check-hand-input = c .before .before .before .before .before .before .before .before .before .before .before .before .before .before .before .before .before .before .before .before .before .before .before .before .before .before .before .before .before .check-hand-input in

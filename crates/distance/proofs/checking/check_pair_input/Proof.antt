@@ -4,54 +4,40 @@ use Rattle.road.specs.Chains.{roadAndSetFaults}
 use borrow.Author.Needs.{needs}
 use Rattle.distance.proofs.checking.check_pair_input.Statement.{statement}
 use Rattle.distance.proofs.checking.check_pair_input.Tie as tie
-use Rattle.distance.proofs.checking.check_pair_input.Reads as reads
-use Rattle.distance.proofs.checking.check_pair_input.Lts as lts
-use Rattle.overlay.proofs.check_overlay.Reads as check-overlay-reads
-use Rattle.road.proofs.check_road_and_set.Reads as check-road-and-set-reads
-use Rattle.road.proofs.node_count.Reads as node-count-reads
-use Rattle.road.proofs.check_nodes.Reads as check-nodes-reads
 
--- src/checking.rt:53:9
 check-road-and-set-requires : tie.Need-check-road-and-set-requires
 check-road-and-set-requires c κs = search needs
 
 enum-told : tie.Need-enum-told
 enum-told c = search needs
 
--- src/checking.rt:55:9
 enum-told-2 : tie.Need-enum-told-2
 enum-told-2 c = search needs
 
--- src/checking.rt:55:9
 returns : tie.Need-returns
 returns c = stops (roadAndSetFaults _ _ _ _) _ (c .enum-told2 .given .1) (c .before .before .check-road-and-set .ensures)
 
--- src/checking.rt:57:9
 check-overlay-requires : tie.Need-check-overlay-requires
 check-overlay-requires c κs = search needs
 
 enum-told-3 : tie.Need-enum-told-3
 enum-told-3 c = search needs
 
--- src/checking.rt:59:9
 enum-told-4 : tie.Need-enum-told-4
 enum-told-4 c = search needs
 
--- src/checking.rt:59:9
 returns-2 : tie.Need-returns-2
 returns-2 c =
     let the-check-road-and-set = c .before .before .before .before .before .check-road-and-set in
-    goes-on (roadAndSetFaults _ _ _ _) _ (c .before .before .before .enum-told .given .1) (the-check-road-and-set .ensures) (stops (_ ∷ []) _ (c .enum-told4 .given .1) (judged-alone (c .before .before .check-overlay .ensures)))
+    let the-enum-told = c .before .before .before .enum-told in
+    goes-on (roadAndSetFaults _ _ _ _) _ (the-enum-told .given .1) (the-check-road-and-set .ensures) (stops (_ ∷ []) _ (c .enum-told4 .given .1) (judged-alone (c .before .before .check-overlay .ensures)))
 
--- src/checking.rt:61:17
 node-count-requires : tie.Need-node-count-requires
 node-count-requires c κs = search needs
 
--- src/checking.rt:61:5
 check-nodes-requires : tie.Need-check-nodes-requires
 check-nodes-requires c κs = search needs
 
--- src/checking.rt:40:1
 returns-3 : tie.Need-returns-3
 returns-3 c =
     let the-check-road-and-set = c .before .before .before .before .before .before .before .check-road-and-set in

@@ -1,18 +1,12 @@
 use native.Mathlib.Omega.{arith}
-use mathlib.Core.Path.{_≡_, refl, ap}
-use Rattle.distance.specs.Labels.{labelOf}
+use mathlib.Core.Path.{refl, ap}
+use Rattle.distance.specs.workings.Labels.{labelOf}
 use Rattle.distance.proofs.Searches.{asks-of, row-small, row-any}
-use Rattle.distance.proofs.Telling.{through-none, through-exits, told-at, gate-modest}
+use Rattle.distance.proofs.Telling.{through-none, through-exits, gate-modest}
 use borrow.Author.Needs.{needs}
 use Rattle.distance.proofs.through.through_entry.Statement.{statement}
 use Rattle.distance.proofs.through.through_entry.Tie as tie
-use Rattle.distance.proofs.through.through_entry.Reads as reads
-use Rattle.distance.proofs.through.through_entry.Lts as lts
-use Rattle.distance.proofs.sums.gate.Reads as gate-reads
-use Rattle.distance.proofs.through.through_exits.Reads as through-exits-reads
-use Rattle.search.proofs.search.Reads as search-reads
 
--- src/through.rt:87:9
 gate-requires : tie.Need-gate-requires
 gate-requires c κs =
     let start = c .before .before .before .before .before .before .before .before .before .before in
@@ -21,21 +15,17 @@ gate-requires c κs =
 enum-told : tie.Need-enum-told
 enum-told c = search needs
 
--- src/through.rt:89:9
 enum-told-2 : tie.Need-enum-told-2
 enum-told-2 c = search needs
 
--- src/through.rt:89:9
 returns : tie.Need-returns
 returns c = (through-none _ _ _ _ _ _ _ _ (c .before .before .gate .ensures) (ap labelOf (c .enum-told2 .given .1)), (refl, refl))
 
--- src/through.rt:91:5
 search-requires : tie.Need-search-requires
 search-requires c κs =
     let start = c .before .before .before .before .before .before .before .before .before .before .before .before .before .before .before .before in
     asks-of _ _ _ _ _ _ _ (start .pre .0) _ (start .pre .1 .1)
 
--- src/through.rt:92:5
 through-exits-requires : tie.Need-through-exits-requires
 through-exits-requires c κs =
     let start = c .before .before .before .before .before .before .before .before .before .before .before .before .before .before .before .before .before .before .before .before .before .before .before .before in
@@ -44,19 +34,15 @@ through-exits-requires c κs =
     let the-search = c .before .before .before .before .before .before .before .search in
     (omega (arith, start .pre .1 .0 .to, start .pre .1 .0 .bytes), (omega (arith, the-search .kept .1 .1 .1 .1 .1 .0, start .pre .0 .room, start .pre .1 .0 .bytes), (omega (arith, start .pre .1 .0 .inward-long, start .pre .1 .0 .bytes), (row-small _ _ _ _ _ _ (start .pre .0 .sound) (the-search .ensures .0), (start .pre .1 .0 .inward-small, omega (arith, gate-modest _ _ _ _ _ (the-gate .ensures) (start .pre .1 .0 .outward-small), ap labelOf (the-enum-told .given .1)))))))
 
--- src/through.rt:66:1
 same-length : tie.Need-same-length
 same-length c = search needs
 
--- src/through.rt:66:1
 same-length-2 : tie.Need-same-length-2
 same-length-2 c = search needs
 
--- src/through.rt:66:1
 same-length-3 : tie.Need-same-length-3
 same-length-3 c = search needs
 
--- src/through.rt:66:1
 returns-2 : tie.Need-returns-2
 returns-2 c =
     let start = c .before .before .before .before .before .before .before .before .before .before .before .before .before .before .before .before .before .before .before .before .before .before .before .before .before in

@@ -3,35 +3,24 @@ use Rattle.distance.proofs.Telling.{says-told, says-as, told-sum, gate-
 use borrow.Author.Needs.{needs}
 use Rattle.distance.proofs.through.through_exit.Statement.{statement}
 use Rattle.distance.proofs.through.through_exit.Tie as tie
-use Rattle.distance.proofs.through.through_exit.Reads as reads
-use Rattle.distance.proofs.through.through_exit.Lts as lts
-use Rattle.distance.proofs.sums.gate.Reads as gate-reads
-use Rattle.distance.proofs.sums.shown.Reads as shown-reads
-use Rattle.distance.proofs.sums.sum.Reads as sum-reads
 
--- src/through.rt:34:24
 mul-shown : tie.Need-mul-shown
 mul-shown c = search needs
 
--- src/through.rt:34:24
 shared-slice-read-shown : tie.Need-shared-slice-read-shown
 shared-slice-read-shown c = search needs
 
--- src/through.rt:34:9
 shown-requires : tie.Need-shown-requires
 shown-requires c κs = search needs
 
--- src/through.rt:35:9
 gate-requires : tie.Need-gate-requires
 gate-requires c κs = search needs
 
--- src/through.rt:36:5
 sum-requires : tie.Need-sum-requires
 sum-requires c κs =
     let start = c .before .before .before .before .before .before in
     (start .pre .1 .1 .1 .1 .1 .1, (omega (arith, c .before .shown .ensures, start .pre .1 .1 .1 .1 .0 .small (start .args .b)), gate-modest _ _ _ _ _ (c .gate .ensures) (start .pre .1 .1 .1 .1 .1 .0)))
 
--- src/through.rt:17:1
 returns : tie.Need-returns
 returns c = told-sum _ _ _ _ (says-told _) (says-as _ _ (c .before .before .shown .ensures)) (c .before .gate .ensures) (c .sum .ensures)
 

@@ -1,16 +1,12 @@
-use Prim.Native.Nat.{ℕ, _+_, _-_, _≤_, _<_}
+use Prim.Native.Nat.{_-_, _≤_}
 use lib.ListN.{length}
 use native.Mathlib.Omega.{arith}
 use Rattle.paths.specs.Least.{Told}
-use Rattle.distance.specs.Labels.{Exits, labelOf}
+use Rattle.distance.specs.workings.Labels.{Exits, labelOf}
 use Rattle.distance.proofs.Telling.{exits-none, exits-more, exits-all}
 use borrow.Author.Needs.{needs}
 use Rattle.distance.proofs.through.through_exits.Statement.{statement}
 use Rattle.distance.proofs.through.through_exits.Tie as tie
-use Rattle.distance.proofs.through.through_exits.Reads as reads
-use Rattle.distance.proofs.through.through_exits.Lts as lts
-use Rattle.distance.proofs.sums.lesser.Reads as lesser-reads
-use Rattle.distance.proofs.through.through_exit.Reads as through-exit-reads
 
 abbrev Inv-loop : tie.InvT-loop
 Inv-loop set labels inward t first best₀ b₀ best b = Told (Exits set labels inward t (labelOf first) b) (labelOf best) × (b ≤ length set)
@@ -18,33 +14,28 @@ Inv-loop set labels inward t first best₀ b₀ best b = Told (Exits set labels 
 abbrev μ-loop : tie.MeasureT-loop
 μ-loop set labels inward t first best₀ b₀ best b = length set - b
 
--- src/through.rt:57:5
 loop-holds : tie.Need-loop-holds Inv-loop μ-loop
 loop-holds c = (exits-none _ _ _ _ _, omega arith)
 
--- src/through.rt:58:13
 through-exit-requires : tie.Need-through-exit-requires Inv-loop μ-loop
 through-exit-requires c κs =
     let start = c .before .before .before .before .before in
     (start .pre .0, (c .loop-test .taken, (start .pre .1 .0, (start .pre .1 .1 .0, (start .pre .1 .1 .1 .0, (start .pre .1 .1 .1 .1 .0, start .pre .1 .1 .1 .1 .1))))))
 
--- src/through.rt:59:9
 lesser-requires : tie.Need-lesser-requires Inv-loop μ-loop
 lesser-requires c κs = search needs
 
--- src/through.rt:60:9
 add-b : tie.Need-add-b Inv-loop μ-loop
 add-b c = search needs
 
--- src/through.rt:57:5
 loop-less : tie.Need-loop-less Inv-loop μ-loop
 loop-less c = search needs
 
--- src/through.rt:57:5
 loop-again : tie.Need-loop-again Inv-loop μ-loop
-loop-again c = (exits-more _ _ _ _ _ _ _ _ _ (c .before .before .before .loop .inv .0) (c .before .through-exit .ensures) (c .lesser .ensures), omega (arith, c .before .before .loop-test .taken))
+loop-again c =
+    let the-loop = c .before .before .before .loop in
+    (exits-more _ _ _ _ _ _ _ _ _ (the-loop .inv .0) (c .before .through-exit .ensures) (c .lesser .ensures), omega (arith, c .before .before .loop-test .taken))
 
--- src/through.rt:40:1
 returns : tie.Need-returns Inv-loop μ-loop
 returns c = exits-all _ _ _ _ _ _ _ _ (c .before .loop .inv .0) (c .before .loop .inv .1) (search needs)
 

@@ -1,19 +1,15 @@
-use Prim.Native.Nat.{ℕ, _+_, _-_, _≤_, _<_}
+use Prim.Native.Nat.{_-_, _≤_}
 use lib.ListN.{length}
 use native.Mathlib.Omega.{arith}
 use mathlib.Core.Path.{_≡_, refl, ap, _∙_}
 use Rattle.road.specs.Roads.{road}
 use Rattle.paths.specs.Least.{Told}
-use Rattle.distance.specs.Labels.{Entries, labelOf}
+use Rattle.distance.specs.workings.Labels.{Entries, labelOf}
 use Rattle.distance.proofs.Searches.{searchable-again}
 use Rattle.distance.proofs.Telling.{entries-none, entries-more, entries-all}
 use borrow.Author.Needs.{needs}
 use Rattle.distance.proofs.through.through_overlay.Statement.{statement}
 use Rattle.distance.proofs.through.through_overlay.Tie as tie
-use Rattle.distance.proofs.through.through_overlay.Reads as reads
-use Rattle.distance.proofs.through.through_overlay.Lts as lts
-use Rattle.distance.proofs.sums.lesser.Reads as lesser-reads
-use Rattle.distance.proofs.through.through_entry.Reads as through-entry-reads
 
 abbrev Inv-loop : tie.InvT-loop
 Inv-loop starts heads weights set outward inward s t blocked labels₀ heap₀ places₀ best₀ a₀ labels heap places best a = Told (Entries (road starts heads weights) set outward inward s t a) (labelOf best) × (a ≤ length set) × (length labels ≡ length labels₀) × (heap ≡ heap₀) × (places ≡ places₀)
@@ -21,30 +17,25 @@ Inv-loop starts heads weights set outward inward s t blocked labels₀ heap₀ p
 abbrev μ-loop : tie.MeasureT-loop
 μ-loop starts heads weights set outward inward s t blocked labels₀ heap₀ places₀ best₀ a₀ labels heap places best a = length set - a
 
--- src/through.rt:117:5
 loop-holds : tie.Need-loop-holds Inv-loop μ-loop
 loop-holds c = (entries-none _ _ _ _ _ _, omega arith, refl, refl, refl)
 
--- src/through.rt:118:13
 through-entry-requires : tie.Need-through-entry-requires Inv-loop μ-loop
 through-entry-requires c κs =
     let start = c .before .before .before .before .before .before .before .before .before .before .before .before .before .before .before in
     let the-loop = c .before .before .before .before .loop in
-    (searchable-again _ _ _ _ _ _ _ (start .pre .0) _ _ _ (the-loop .inv .2) (the-loop .inv .3) (the-loop .inv .4), (start .pre .1, omega (arith, c .before .before .before .loop-test .taken, start .pre .1 .bytes)))
+    let the-loop-test = c .before .before .before .loop-test in
+    (searchable-again _ _ _ _ _ _ _ (start .pre .0) _ _ _ (the-loop .inv .2) (the-loop .inv .3) (the-loop .inv .4), (start .pre .1, omega (arith, the-loop-test .taken, start .pre .1 .bytes)))
 
--- src/through.rt:133:9
 lesser-requires : tie.Need-lesser-requires Inv-loop μ-loop
 lesser-requires c κs = search needs
 
--- src/through.rt:134:9
 add-a : tie.Need-add-a Inv-loop μ-loop
 add-a c = search needs
 
--- src/through.rt:117:5
 loop-less : tie.Need-loop-less Inv-loop μ-loop
 loop-less c = search needs
 
--- src/through.rt:117:5
 loop-again : tie.Need-loop-again Inv-loop μ-loop
 loop-again c =
     let the-loop = c .before .before .before .before .before .before .before .before .before .before .before .before .loop in
@@ -52,19 +43,15 @@ loop-again c =
     let the-through-entry = c .before .before .before .before .before .before .before .through-entry in
     (entries-more _ _ _ _ _ _ _ _ _ _ (the-loop .inv .0) (the-through-entry .ensures .0) (c .lesser .ensures), omega (arith, the-loop-test .taken), the-through-entry .kept .1 .1 .1 .1 .1 .1 .1 .1 .1 .0 ∙ the-loop .inv .2, the-through-entry .ensures .1 .0 ∙ the-loop .inv .3, the-through-entry .ensures .1 .1 ∙ the-loop .inv .4)
 
--- src/through.rt:96:1
 same-length : tie.Need-same-length Inv-loop μ-loop
 same-length c = c .before .loop .inv .2
 
--- src/through.rt:96:1
 same-length-2 : tie.Need-same-length-2 Inv-loop μ-loop
 same-length-2 c = omega (arith, ap length (c .before .loop .inv .3))
 
--- src/through.rt:96:1
 same-length-3 : tie.Need-same-length-3 Inv-loop μ-loop
 same-length-3 c = omega (arith, ap length (c .before .loop .inv .4))
 
--- src/through.rt:96:1
 returns : tie.Need-returns Inv-loop μ-loop
 returns c = (entries-all _ _ _ _ _ _ _ _ _ (c .before .loop .inv .0) (c .before .loop .inv .1) (search needs), (c .before .loop .inv .3, c .before .loop .inv .4))
 

@@ -10,7 +10,9 @@ enum-known-input : tie.Need-enum-known-input
 enum-known-input c = search needs
 
 returns : tie.Need-returns
-returns c = refused-early _ _ _ _ _ _ _ _ (c .before .before .before .check-drive-input .ensures) (c .before .input .given .1)
+returns c =
+    let the-check-drive-input = c .before .before .before .check-drive-input in
+    refused-early _ _ _ _ _ _ _ _ (the-check-drive-input .ensures) (c .before .input .given .1)
 
 enum-told : tie.Need-enum-told
 enum-told c = search needs
@@ -25,7 +27,8 @@ returns-2 : tie.Need-returns-2
 returns-2 c =
     let the-check-drive-input = c .before .before .before .before .before .before .check-drive-input in
     let the-enum-told = c .before .before .before .before .enum-told in
-    refused-late _ _ _ _ _ _ _ (the-check-drive-input .ensures) (the-enum-told .given .1) _ (c .before .before .before .check-length .ensures) _ (c .before .room .given .1)
+    let the-check-length = c .before .before .before .check-length in
+    refused-late _ _ _ _ _ _ _ (the-check-drive-input .ensures) (the-enum-told .given .1) _ (the-check-length .ensures) _ (c .before .room .given .1)
 
 enum-told-2 : tie.Need-enum-told-2
 enum-told-2 c = search needs
@@ -34,7 +37,8 @@ pick-requires : tie.Need-pick-requires
 pick-requires c κs =
     let the-check-drive-input = c .before .before .before .before .before .before .check-drive-input in
     let the-enum-told = c .before .before .before .before .enum-told in
-    fits _ _ _ _ _ _ _ (the-check-drive-input .ensures) (the-enum-told .given .1) _ (c .before .before .before .check-length .ensures) (c .before .enum-told2 .given .1)
+    let the-check-length = c .before .before .before .check-length in
+    fits _ _ _ _ _ _ _ (the-check-drive-input .ensures) (the-enum-told .given .1) _ (the-check-length .ensures) (c .before .enum-told2 .given .1)
 
 same-length : tie.Need-same-length
 same-length c = search needs

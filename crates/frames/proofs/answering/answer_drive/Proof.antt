@@ -3,44 +3,32 @@ use native.Mathlib.Omega.{arith}
 use borrow.Author.Needs.{needs}
 use Rattle.frames.proofs.answering.answer_drive.Statement.{statement}
 use Rattle.frames.proofs.answering.answer_drive.Tie as tie
-use Rattle.frames.proofs.answering.answer_drive.Reads as reads
-use Rattle.frames.proofs.answering.answer_drive.Lts as lts
-use Rattle.drive.proofs.thin.Reads as thin-reads
-use Rattle.frames.proofs.answering.refuse.Reads as refuse-reads
-use Rattle.hexlines.proofs.write_kept.Reads as write-kept-reads
 
--- src/answering.rt:103:9
 thin-requires : tie.Need-thin-requires
 thin-requires c κs = search needs
 
--- src/answering.rt:105:29
 enum-known-found : tie.Need-enum-known-found
 enum-known-found c = search needs
 
--- src/answering.rt:105:35
 refuse-requires : tie.Need-refuse-requires
 refuse-requires c κs = search needs
 
--- src/answering.rt:106:29
 enum-known-found-2 : tie.Need-enum-known-found-2
 enum-known-found-2 c = search needs
 
--- src/answering.rt:108:44
 sub-write-kept : tie.Need-sub-write-kept
 sub-write-kept c = search needs
 
--- src/answering.rt:108:44
 part-write-kept-start : tie.Need-part-write-kept-start
 part-write-kept-start c = search needs
 
--- src/answering.rt:108:44
 part-write-kept-end : tie.Need-part-write-kept-end
 part-write-kept-end c =
     let start = c .before .before .before .before .before .before .before .before .before .before .before .before .before .before .before .before in
     let the-thin = c .before .before .before .before .before .before .before .thin in
-    omega (arith, kept-fits (start .args .starts .now) (start .args .heads .now) (start .args .weights .now) (start .args .set .now) (start .args .nodes .now) (start .args .positions .now) (start .pre .0 .1) (start .args .line) _ _ (the-thin .ensures) _ (c .before .before .before .found2 .given .1) (the-thin .kept .1 .1 .1 .1 .1 .0) .0)
+    let the-found2 = c .before .before .before .found2 in
+    omega (arith, kept-fits (start .args .starts .now) (start .args .heads .now) (start .args .weights .now) (start .args .set .now) (start .args .nodes .now) (start .args .positions .now) (start .pre .0 .1) (start .args .line) _ _ (the-thin .ensures) _ (the-found2 .given .1) (the-thin .kept .1 .1 .1 .1 .1 .0) .0)
 
--- src/answering.rt:108:17
 write-kept-requires : tie.Need-write-kept-requires
 write-kept-requires c κs =
     let start = c .before .before .before .before .before .before .before .before .before .before .before .before .before .before .before .before .before in
@@ -48,15 +36,12 @@ write-kept-requires c κs =
     let the-found2 = c .before .before .before .before .found2 in
     kept-room (start .args .starts .now) (start .args .heads .now) (start .args .weights .now) (start .args .set .now) (start .args .nodes .now) (start .args .positions .now) (start .pre .0 .1) (start .args .line) _ _ (the-thin .ensures) _ (the-found2 .given .1) (the-thin .kept .1 .1 .1 .1 .1 .0) _ (start .args .out .now) (start .pre .0 .0) (start .pre .1)
 
--- src/answering.rt:88:1
 same-length : tie.Need-same-length
 same-length c = search needs
 
--- src/answering.rt:88:1
 same-length-2 : tie.Need-same-length-2
 same-length-2 c = search needs
 
--- src/answering.rt:88:1
 returns : tie.Need-returns
 returns c =
     let start = c .before .before .before .before .before .before .before .before .before .before .before .before .before .before .before .before .before .before in
@@ -64,15 +49,12 @@ returns c =
     let the-found = c .before .before .before .before .before .found in
     drive-refused (start .args .starts .now) (start .args .heads .now) (start .args .weights .now) (start .args .set .now) (start .args .nodes .now) (start .args .positions .now) (start .pre .0 .1) (start .args .line) _ _ (the-thin .ensures) _ _ _ _ _ _ _ (the-found .given .1) (c .before .before .refuse .ensures)
 
--- src/answering.rt:88:1
 same-length-3 : tie.Need-same-length-3
 same-length-3 c = search needs
 
--- src/answering.rt:88:1
 same-length-4 : tie.Need-same-length-4
 same-length-4 c = search needs
 
--- src/answering.rt:88:1
 returns-2 : tie.Need-returns-2
 returns-2 c =
     let start = c .before .before .before .before .before .before .before .before .before .before .before .before .before .before .before .before .before .before .before .before in

@@ -2,50 +2,34 @@ use Rattle.frames.proofs.Laying.{built-refused, built-laid, covered-of}
 use borrow.Author.Needs.{needs}
 use Rattle.frames.proofs.building.build.Statement.{statement}
 use Rattle.frames.proofs.building.build.Tie as tie
-use Rattle.frames.proofs.building.build.Reads as reads
-use Rattle.frames.proofs.building.build.Lts as lts
-use Rattle.frames.proofs.answering.refuse.Reads as refuse-reads
-use Rattle.frames.proofs.building.lay.Reads as lay-reads
-use Rattle.maps.proofs.find_cover.Reads as find-cover-reads
-use Rattle.maps.proofs.write_starts.Reads as write-starts-reads
 
--- src/building.rt:110:5
 write-starts-requires : tie.Need-write-starts-requires
 write-starts-requires c κs = search needs
 
--- src/building.rt:111:9
 find-cover-requires : tie.Need-find-cover-requires
 find-cover-requires c κs = search needs
 
--- src/building.rt:113:30
 enum-known-covered : tie.Need-enum-known-covered
 enum-known-covered c = search needs
 
--- src/building.rt:113:36
 refuse-requires : tie.Need-refuse-requires
 refuse-requires c κs = search needs
 
--- src/building.rt:114:30
 enum-known-covered-2 : tie.Need-enum-known-covered-2
 enum-known-covered-2 c = search needs
 
--- src/building.rt:116:13
 lay-requires : tie.Need-lay-requires
 lay-requires c κs = search needs
 
--- src/building.rt:93:1
 same-length : tie.Need-same-length
 same-length c = search needs
 
--- src/building.rt:93:1
 same-length-2 : tie.Need-same-length-2
 same-length-2 c = search needs
 
--- src/building.rt:93:1
 same-length-3 : tie.Need-same-length-3
 same-length-3 c = search needs
 
--- src/building.rt:93:1
 returns : tie.Need-returns
 returns c =
     let start = c .before .before .before .before .before .before .before .before .before .before .before .before .before .before .before .before .before .before .before .before .before .before .before .before .before in
@@ -54,31 +38,24 @@ returns c =
     let the-covered = c .before .before .before .before .before .covered in
     built-refused _ _ _ _ _ _ (start .args .tails .now) _ _ _ _ _ _ _ _ _ _ _ (the-write-starts .ensures) (the-covered .given .1) (the-find-cover .ensures) (c .before .before .refuse .ensures)
 
--- src/building.rt:93:1
 same-length-4 : tie.Need-same-length-4
 same-length-4 c = search needs
 
--- src/building.rt:93:1
 same-length-5 : tie.Need-same-length-5
 same-length-5 c = search needs
 
--- src/building.rt:93:1
 same-length-6 : tie.Need-same-length-6
 same-length-6 c = search needs
 
--- src/building.rt:93:1
 same-length-7 : tie.Need-same-length-7
 same-length-7 c = search needs
 
--- src/building.rt:93:1
 same-length-8 : tie.Need-same-length-8
 same-length-8 c = search needs
 
--- src/building.rt:93:1
 same-length-9 : tie.Need-same-length-9
 same-length-9 c = search needs
 
--- src/building.rt:93:1
 returns-2 : tie.Need-returns-2
 returns-2 c =
     let start = c .before .before .before .before .before .before .before .before .before .before .before .before .before .before .before .before .before .before .before .before .before .before .before .before .before .before .before .before .before .before .before .before .before .before .before .before in

@@ -1,128 +1,96 @@
 use borrow.Author.Needs.{needs}
 use Rattle.frames.proofs.steps.complete.Statement.{statement}
 use Rattle.frames.proofs.steps.complete.Tie as tie
-use Rattle.frames.proofs.steps.complete.Reads as reads
-use Rattle.frames.proofs.steps.complete.Lts as lts
-use Rattle.frames.proofs.building.build.Reads as build-reads
-use Rattle.frames.proofs.steps.settled.Reads as settled-reads
 use Rattle.frames.proofs.Fitting.{complete-fits}
 use Rattle.frames.proofs.Standing.{completed, settled-left}
 use native.Mathlib.Omega.{arith}
 
--- src/steps.rt:118:13
 add-e : tie.Need-add-e
 add-e c = search needs
 
--- src/steps.rt:122:9
 sub-build : tie.Need-sub-build
 sub-build c = search needs
 
--- src/steps.rt:122:9
 part-build-start : tie.Need-part-build-start
 part-build-start c = search needs
 
--- src/steps.rt:122:9
 part-build-end : tie.Need-part-build-end
 part-build-end c = search needs
 
--- src/steps.rt:123:9
 sub-build-2 : tie.Need-sub-build-2
 sub-build-2 c = search needs
 
--- src/steps.rt:123:9
 part-build-start-2 : tie.Need-part-build-start-2
 part-build-start-2 c = search needs
 
--- src/steps.rt:123:9
 part-build-end-2 : tie.Need-part-build-end-2
 part-build-end-2 c = search needs
 
--- src/steps.rt:124:9
 sub-build-3 : tie.Need-sub-build-3
 sub-build-3 c = search needs
 
--- src/steps.rt:124:9
 part-build-start-3 : tie.Need-part-build-start-3
 part-build-start-3 c = search needs
 
--- src/steps.rt:124:9
 part-build-end-3 : tie.Need-part-build-end-3
 part-build-end-3 c = search needs
 
--- src/steps.rt:125:9
 sub-build-4 : tie.Need-sub-build-4
 sub-build-4 c = search needs
 
--- src/steps.rt:125:9
 part-build-start-4 : tie.Need-part-build-start-4
 part-build-start-4 c = search needs
 
--- src/steps.rt:125:9
 part-build-end-4 : tie.Need-part-build-end-4
 part-build-end-4 c = search needs
 
--- src/steps.rt:126:9
 sub-build-5 : tie.Need-sub-build-5
 sub-build-5 c = search needs
 
--- src/steps.rt:126:9
 part-build-start-5 : tie.Need-part-build-start-5
 part-build-start-5 c = search needs
 
--- src/steps.rt:126:9
 part-build-end-5 : tie.Need-part-build-end-5
 part-build-end-5 c = search needs
 
--- src/steps.rt:127:9
 sub-build-6 : tie.Need-sub-build-6
 sub-build-6 c = search needs
 
--- src/steps.rt:127:9
 part-build-start-6 : tie.Need-part-build-start-6
 part-build-start-6 c = search needs
 
--- src/steps.rt:127:9
 part-build-end-6 : tie.Need-part-build-end-6
 part-build-end-6 c = search needs
 
--- src/steps.rt:119:9
 build-requires : tie.Need-build-requires
 build-requires c κs =
     let start = c .before .before .before .before .before .before .before .before .before .before .before .before .before .before .before .before .before .before in
     complete-fits (start .args .tails .now) (start .args .heads .now) (start .args .weights .now) (start .args .starts .now) (start .args .set .now) (start .args .over-starts .now) (start .args .over-heads .now) (start .args .over-weights .now) (start .pre .1 .0) (start .args .n .0) (start .args .m .0) _ (start .args .out .now) (start .pre .0 .0) (start .pre .0 .1) (start .pre .1 .1 .0)
 
--- src/steps.rt:137:16
 settled-requires : tie.Need-settled-requires
 settled-requires c κs =
     let start = c .before .before .before .before .before .before .before .before .before .before .before .before .before .before .before .before .before .before .before .before .before .before .before .before .before .before .before .before .before .before .before in
     let the-build = c .before .before .before .before .before .before .before .before .before .before .before .before .build in
     (start .pre .1 .1 .1, (start .pre .0 .0, start .pre .0 .1, the-build .ensures .few))
 
--- src/steps.rt:94:1
 same-length : tie.Need-same-length
 same-length c = search needs
 
--- src/steps.rt:94:1
 same-length-2 : tie.Need-same-length-2
 same-length-2 c = search needs
 
--- src/steps.rt:94:1
 same-length-3 : tie.Need-same-length-3
 same-length-3 c = search needs
 
--- src/steps.rt:94:1
 same-length-4 : tie.Need-same-length-4
 same-length-4 c = search needs
 
--- src/steps.rt:94:1
 same-length-5 : tie.Need-same-length-5
 same-length-5 c = search needs
 
--- src/steps.rt:94:1
 same-length-6 : tie.Need-same-length-6
 same-length-6 c = search needs
 
--- src/steps.rt:94:1
 returns : tie.Need-returns
 returns c =
     let start = c .before .before .before .before .before .before .before .before .before .before .before .before .before .before .before .before .before .before .before .before .before .before .before .before .before .before .before .before .before .before .before .before in

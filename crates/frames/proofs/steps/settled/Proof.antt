@@ -1,20 +1,14 @@
 use borrow.Author.Needs.{needs}
 use Rattle.frames.proofs.steps.settled.Statement.{statement}
 use Rattle.frames.proofs.steps.settled.Tie as tie
-use Rattle.frames.proofs.steps.settled.Reads as reads
-use Rattle.frames.proofs.steps.settled.Lts as lts
-use Rattle.frames.proofs.steps.stopped.Reads as stopped-reads
 use Rattle.frames.proofs.Standing.{settled-on, settled-off}
 
--- src/steps.rt:80:9
 returns : tie.Need-returns
 returns c = settled-on _ _ _ _ _ _ (c .if1 .taken) (c .before .pre .0) (c .before .pre .1)
 
--- src/steps.rt:90:5
 stopped-requires : tie.Need-stopped-requires
 stopped-requires c κs = search needs
 
--- src/steps.rt:74:1
 returns-2 : tie.Need-returns-2
 returns-2 c = settled-off _ _ _ _ _ _ (c .before .if1 .left) (c .stopped .ensures .0) (c .stopped .ensures .1)
 

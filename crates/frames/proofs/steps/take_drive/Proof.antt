@@ -1,100 +1,76 @@
 use borrow.Author.Needs.{needs}
 use Rattle.frames.proofs.steps.take_drive.Statement.{statement}
 use Rattle.frames.proofs.steps.take_drive.Tie as tie
-use Rattle.frames.proofs.steps.take_drive.Reads as reads
-use Rattle.frames.proofs.steps.take_drive.Lts as lts
-use Rattle.frames.proofs.answering.answer_drive.Reads as answer-drive-reads
 use Rattle.frames.proofs.Judging.{drive-driven}
 
--- src/steps.rt:343:13
 add-e : tie.Need-add-e
 add-e c = search needs
 
--- src/steps.rt:347:9
 sub-answer-drive : tie.Need-sub-answer-drive
 sub-answer-drive c = search needs
 
--- src/steps.rt:347:9
 part-answer-drive-start : tie.Need-part-answer-drive-start
 part-answer-drive-start c = search needs
 
--- src/steps.rt:347:9
 part-answer-drive-end : tie.Need-part-answer-drive-end
 part-answer-drive-end c = search needs
 
--- src/steps.rt:348:9
 sub-answer-drive-2 : tie.Need-sub-answer-drive-2
 sub-answer-drive-2 c = search needs
 
--- src/steps.rt:348:9
 part-answer-drive-start-2 : tie.Need-part-answer-drive-start-2
 part-answer-drive-start-2 c = search needs
 
--- src/steps.rt:348:9
 part-answer-drive-end-2 : tie.Need-part-answer-drive-end-2
 part-answer-drive-end-2 c = search needs
 
--- src/steps.rt:349:9
 sub-answer-drive-3 : tie.Need-sub-answer-drive-3
 sub-answer-drive-3 c = search needs
 
--- src/steps.rt:349:9
 part-answer-drive-start-3 : tie.Need-part-answer-drive-start-3
 part-answer-drive-start-3 c = search needs
 
--- src/steps.rt:349:9
 part-answer-drive-end-3 : tie.Need-part-answer-drive-end-3
 part-answer-drive-end-3 c = search needs
 
--- src/steps.rt:350:9
 sub-answer-drive-4 : tie.Need-sub-answer-drive-4
 sub-answer-drive-4 c = search needs
 
--- src/steps.rt:350:9
 part-answer-drive-start-4 : tie.Need-part-answer-drive-start-4
 part-answer-drive-start-4 c = search needs
 
--- src/steps.rt:350:9
 part-answer-drive-end-4 : tie.Need-part-answer-drive-end-4
 part-answer-drive-end-4 c = search needs
 
--- src/steps.rt:351:9
 sub-answer-drive-5 : tie.Need-sub-answer-drive-5
 sub-answer-drive-5 c = search needs
 
--- src/steps.rt:351:9
 part-answer-drive-start-5 : tie.Need-part-answer-drive-start-5
 part-answer-drive-start-5 c = search needs
 
--- src/steps.rt:351:9
 part-answer-drive-end-5 : tie.Need-part-answer-drive-end-5
 part-answer-drive-end-5 c = search needs
 
--- src/steps.rt:352:9
 sub-answer-drive-6 : tie.Need-sub-answer-drive-6
 sub-answer-drive-6 c = search needs
 
--- src/steps.rt:352:9
 part-positions-start : tie.Need-part-positions-start
 part-positions-start c = search needs
 
--- src/steps.rt:352:9
 part-positions-end : tie.Need-part-positions-end
 part-positions-end c = search needs
 
--- src/steps.rt:345:5
 answer-drive-requires : tie.Need-answer-drive-requires
 answer-drive-requires c κs = search needs
 
--- src/steps.rt:323:1
 same-length : tie.Need-same-length
 same-length c = search needs
 
--- src/steps.rt:323:1
 returns : tie.Need-returns
 returns c =
     let start = c .before .before .before .before .before .before .before .before .before .before .before .before .before .before .before .before .before in
-    drive-driven _ (start .args .s .n .0) (start .args .s .m .0) (start .args .count) (start .args .starts .now) (start .args .heads .now) (start .args .weights .now) (start .args .set .now) (start .args .nodes .now) _ _ _ _ _ (c .before .before .before .answer-drive .ensures)
+    let the-answer-drive = c .before .before .before .answer-drive in
+    drive-driven _ (start .args .s .n .0) (start .args .s .m .0) (start .args .count) (start .args .starts .now) (start .args .heads .now) (start .args .weights .now) (start .args .set .now) (start .args .nodes .now) _ _ _ _ _ (the-answer-drive .ensures)
 
 pub take-drive-spec : {M : Type 1} → statement M
 take-drive-spec =

@@ -1,47 +1,35 @@
 use borrow.Author.Needs.{needs}
 use Rattle.frames.proofs.steps.take_head.Statement.{statement}
 use Rattle.frames.proofs.steps.take_head.Tie as tie
-use Rattle.frames.proofs.steps.take_head.Reads as reads
-use Rattle.frames.proofs.steps.take_head.Lts as lts
-use Rattle.frames.proofs.steps.complete.Reads as complete-reads
 use Rattle.frames.proofs.Standing.{head-more, head-complete, left-as}
 use native.Mathlib.Omega.{arith}
 
--- src/steps.rt:166:9
 returns : tie.Need-returns
 returns c =
     let start = c .before .before .before .before .before .before .before .before .before .before .before in
     head-more _ _ _ _ _ _ _ (start .pre .1 .1 .1) (start .pre .0) (c .if1 .taken) (omega (arith, start .pre .1 .1 .0))
 
--- src/steps.rt:179:5
 complete-requires : tie.Need-complete-requires
 complete-requires c κs = search needs
 
--- src/steps.rt:143:1
 same-length : tie.Need-same-length
 same-length c = search needs
 
--- src/steps.rt:143:1
 same-length-2 : tie.Need-same-length-2
 same-length-2 c = search needs
 
--- src/steps.rt:143:1
 same-length-3 : tie.Need-same-length-3
 same-length-3 c = search needs
 
--- src/steps.rt:143:1
 same-length-4 : tie.Need-same-length-4
 same-length-4 c = search needs
 
--- src/steps.rt:143:1
 same-length-5 : tie.Need-same-length-5
 same-length-5 c = search needs
 
--- src/steps.rt:143:1
 same-length-6 : tie.Need-same-length-6
 same-length-6 c = search needs
 
--- src/steps.rt:143:1
 returns-2 : tie.Need-returns-2
 returns-2 c =
     let start = c .before .before .before .before .before .before .before .before .before .before .before .before .before .before .before .before .before .before .before .before .before .before .before .before .before .before .before .before .before .before in

@@ -1,108 +1,80 @@
 use borrow.Author.Needs.{needs}
 use Rattle.frames.proofs.steps.take_question.Statement.{statement}
 use Rattle.frames.proofs.steps.take_question.Tie as tie
-use Rattle.frames.proofs.steps.take_question.Reads as reads
-use Rattle.frames.proofs.steps.take_question.Lts as lts
-use Rattle.frames.proofs.answering.answer_question.Reads as answer-question-reads
 use Rattle.frames.proofs.Judging.{question-asked}
 
--- src/steps.rt:305:13
 add-e : tie.Need-add-e
 add-e c = search needs
 
--- src/steps.rt:308:9
 sub-answer-question : tie.Need-sub-answer-question
 sub-answer-question c = search needs
 
--- src/steps.rt:308:9
 part-answer-question-start : tie.Need-part-answer-question-start
 part-answer-question-start c = search needs
 
--- src/steps.rt:308:9
 part-answer-question-end : tie.Need-part-answer-question-end
 part-answer-question-end c = search needs
 
--- src/steps.rt:309:9
 sub-answer-question-2 : tie.Need-sub-answer-question-2
 sub-answer-question-2 c = search needs
 
--- src/steps.rt:309:9
 part-answer-question-start-2 : tie.Need-part-answer-question-start-2
 part-answer-question-start-2 c = search needs
 
--- src/steps.rt:309:9
 part-answer-question-end-2 : tie.Need-part-answer-question-end-2
 part-answer-question-end-2 c = search needs
 
--- src/steps.rt:310:9
 sub-answer-question-3 : tie.Need-sub-answer-question-3
 sub-answer-question-3 c = search needs
 
--- src/steps.rt:310:9
 part-answer-question-start-3 : tie.Need-part-answer-question-start-3
 part-answer-question-start-3 c = search needs
 
--- src/steps.rt:310:9
 part-answer-question-end-3 : tie.Need-part-answer-question-end-3
 part-answer-question-end-3 c = search needs
 
--- src/steps.rt:311:9
 sub-answer-question-4 : tie.Need-sub-answer-question-4
 sub-answer-question-4 c = search needs
 
--- src/steps.rt:311:9
 part-answer-question-start-4 : tie.Need-part-answer-question-start-4
 part-answer-question-start-4 c = search needs
 
--- src/steps.rt:311:9
 part-answer-question-end-4 : tie.Need-part-answer-question-end-4
 part-answer-question-end-4 c = search needs
 
--- src/steps.rt:312:9
 sub-answer-question-5 : tie.Need-sub-answer-question-5
 sub-answer-question-5 c = search needs
 
--- src/steps.rt:312:9
 part-answer-question-start-5 : tie.Need-part-answer-question-start-5
 part-answer-question-start-5 c = search needs
 
--- src/steps.rt:312:9
 part-answer-question-end-5 : tie.Need-part-answer-question-end-5
 part-answer-question-end-5 c = search needs
 
--- src/steps.rt:313:9
 sub-answer-question-6 : tie.Need-sub-answer-question-6
 sub-answer-question-6 c = search needs
 
--- src/steps.rt:313:9
 part-answer-question-start-6 : tie.Need-part-answer-question-start-6
 part-answer-question-start-6 c = search needs
 
--- src/steps.rt:313:9
 part-answer-question-end-6 : tie.Need-part-answer-question-end-6
 part-answer-question-end-6 c = search needs
 
--- src/steps.rt:314:9
 sub-answer-question-7 : tie.Need-sub-answer-question-7
 sub-answer-question-7 c = search needs
 
--- src/steps.rt:314:9
 part-answer-question-start-7 : tie.Need-part-answer-question-start-7
 part-answer-question-start-7 c = search needs
 
--- src/steps.rt:314:9
 part-answer-question-end-7 : tie.Need-part-answer-question-end-7
 part-answer-question-end-7 c = search needs
 
--- src/steps.rt:306:5
 answer-question-requires : tie.Need-answer-question-requires
 answer-question-requires c κs = search needs
 
--- src/steps.rt:282:1
 same-length : tie.Need-same-length
 same-length c = search needs
 
--- src/steps.rt:282:1
 returns : tie.Need-returns
 returns c =
     let start = c .before .before .before .before .before .before .before .before .before .before .before .before .before .before .before .before .before .before .before in

@@ -1,40 +1,30 @@
 use borrow.Author.Needs.{needs}
 use Rattle.frames.proofs.steps.take_unended.Statement.{statement}
 use Rattle.frames.proofs.steps.take_unended.Tie as tie
-use Rattle.frames.proofs.steps.take_unended.Reads as reads
-use Rattle.frames.proofs.steps.take_unended.Lts as lts
-use Rattle.frames.proofs.steps.stop.Reads as stop-reads
 use Rattle.frames.proofs.Standing.{unended-beyond, unended-cut}
 use native.Mathlib.Omega.{arith}
 
--- src/steps.rt:587:16
 add-line : tie.Need-add-line
 add-line c = search needs
 
--- src/steps.rt:589:9
 stop-requires : tie.Need-stop-requires
 stop-requires c κs = search needs
 
--- src/steps.rt:589:9
 same-length : tie.Need-same-length
 same-length c = search needs
 
--- src/steps.rt:589:9
 returns : tie.Need-returns
 returns c =
     let start = c .before .before .before .before .before .before in
     let the-if1 = c .before .before .before .before .if1 in
     unended-beyond _ _ _ _ _ _ (start .pre .0) (the-if1 .taken) (c .before .before .stop .ensures)
 
--- src/steps.rt:591:5
 stop-requires-2 : tie.Need-stop-requires-2
 stop-requires-2 c κs = search needs
 
--- src/steps.rt:581:1
 same-length-2 : tie.Need-same-length-2
 same-length-2 c = search needs
 
--- src/steps.rt:581:1
 returns-2 : tie.Need-returns-2
 returns-2 c =
     let start = c .before .before .before .before .before .before in

@@ -1,60 +1,43 @@
 use borrow.Author.Needs.{needs}
 use Rattle.gulvane.proofs.distances.gulvane_any_pair.Statement.{statement}
 use Rattle.gulvane.proofs.distances.gulvane_any_pair.Tie as tie
-use Rattle.gulvane.proofs.distances.gulvane_any_pair.Reads as reads
-use Rattle.gulvane.proofs.distances.gulvane_any_pair.Lts as lts
-use Rattle.distance.proofs.any_pair.Reads as any-pair-reads
-use Rattle.gulvane.proofs.results.of_distance.Reads as of-distance-reads
 
--- src/distances.rt:54:17
 any-pair-requires : tie.Need-any-pair-requires
 any-pair-requires c κs = search needs
 
--- src/distances.rt:54:5
 of-distance-requires : tie.Need-of-distance-requires
 of-distance-requires c κs = search needs
 
--- src/distances.rt:30:1
 same-length : tie.Need-same-length
 same-length c = search needs
 
--- src/distances.rt:30:1
 same-length-2 : tie.Need-same-length-2
 same-length-2 c = search needs
 
--- src/distances.rt:30:1
 same-length-3 : tie.Need-same-length-3
 same-length-3 c = search needs
 
--- src/distances.rt:30:1
 same-length-4 : tie.Need-same-length-4
 same-length-4 c = search needs
 
--- src/distances.rt:30:1
 same-length-5 : tie.Need-same-length-5
 same-length-5 c = search needs
 
--- src/distances.rt:30:1
 same-length-6 : tie.Need-same-length-6
 same-length-6 c = search needs
 
--- src/distances.rt:30:1
 same-length-7 : tie.Need-same-length-7
 same-length-7 c = search needs
 
--- src/distances.rt:30:1
 same-length-8 : tie.Need-same-length-8
 same-length-8 c = search needs
 
--- src/distances.rt:30:1
 same-length-9 : tie.Need-same-length-9
 same-length-9 c = search needs
 
--- src/distances.rt:30:1
 same-length-10 : tie.Need-same-length-10
 same-length-10 c = search needs
 
--- src/distances.rt:30:1
 returns : tie.Need-returns
 returns c =
     let the-any-pair = c .before .before .before .before .before .before .before .before .before .before .before .before .before .before .before .before .before .before .before .before .before .any-pair in

@@ -2,19 +2,13 @@ use Rattle.gulvane.proofs.Told.{count-refused, bare-refused}
 use borrow.Author.Needs.{needs}
 use Rattle.gulvane.proofs.results.no_count.Statement.{statement}
 use Rattle.gulvane.proofs.results.no_count.Tie as tie
-use Rattle.gulvane.proofs.results.no_count.Reads as reads
-use Rattle.gulvane.proofs.results.no_count.Lts as lts
-use Rattle.road.proofs.number.Reads as number-reads
 
--- src/results.rt:23:18
 number-requires : tie.Need-number-requires
 number-requires c κs = search needs
 
--- src/results.rt:23:18
 cast-t3 : tie.Need-cast-t3
 cast-t3 c = search needs
 
--- src/results.rt:19:1
 returns : tie.Need-returns
 returns c = (count-refused (c .before .args .r) _ (c .number .ensures), bare-refused _)
 

@@ -2,19 +2,13 @@ use Rattle.gulvane.proofs.Told.{distance-refused, bare-distance-refused
 use borrow.Author.Needs.{needs}
 use Rattle.gulvane.proofs.results.no_distance.Statement.{statement}
 use Rattle.gulvane.proofs.results.no_distance.Tie as tie
-use Rattle.gulvane.proofs.results.no_distance.Reads as reads
-use Rattle.gulvane.proofs.results.no_distance.Lts as lts
-use Rattle.road.proofs.number.Reads as number-reads
 
--- src/results.rt:33:18
 number-requires : tie.Need-number-requires
 number-requires c κs = search needs
 
--- src/results.rt:33:18
 cast-t3 : tie.Need-cast-t3
 cast-t3 c = search needs
 
--- src/results.rt:29:1
 returns : tie.Need-returns
 returns c = (distance-refused (c .before .args .r) _ (c .number .ensures), bare-distance-refused _)
 

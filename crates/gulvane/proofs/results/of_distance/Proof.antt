@@ -1,38 +1,28 @@
-use mathlib.Core.Path.{_≡_, ap, sym, _∙_}
+use mathlib.Core.Path.{ap, sym, _∙_}
 use Rattle.distance.specs.Calls.{saidOf}
 use borrow.Author.Needs.{needs}
 use Rattle.gulvane.proofs.results.of_distance.Statement.{statement}
 use Rattle.gulvane.proofs.Told.{bare-way, bare-no-way}
 use Rattle.gulvane.proofs.results.of_distance.Tie as tie
-use Rattle.gulvane.proofs.results.of_distance.Reads as reads
-use Rattle.gulvane.proofs.results.of_distance.Lts as lts
-use Rattle.gulvane.proofs.results.no_distance.Reads as no-distance-reads
 
--- src/results.rt:79:29
 enum-known-a : tie.Need-enum-known-a
 enum-known-a c = search needs
 
--- src/results.rt:84:34
 enum-told : tie.Need-enum-told
 enum-told c = search needs
 
--- src/results.rt:89:33
 enum-known-a-2 : tie.Need-enum-known-a-2
 enum-known-a-2 c = search needs
 
--- src/results.rt:89:39
 no-distance-requires : tie.Need-no-distance-requires
 no-distance-requires c κs = search needs
 
--- src/results.rt:75:1
 returns : tie.Need-returns
 returns c = (sym (ap saidOf (c .before .a .given .1)), bare-way _)
 
--- src/results.rt:75:1
 returns-2 : tie.Need-returns-2
 returns-2 c = (sym (ap saidOf (c .enum-told .given .1)), bare-no-way)
 
--- src/results.rt:75:1
 returns-3 : tie.Need-returns-3
 returns-3 c = (c .no-distance .ensures .0 ∙ sym (ap saidOf (c .before .before .a2 .given .1)), c .no-distance .ensures .1)
 

@@ -1,5 +1,4 @@
-use Rattle.hexlines.proofs.Growing.{wrote-long}
-use Rattle.hexlines.proofs.Growing.{Writing, writing-none, writing-long, numbers-fit, numbers-room, numbers-more, numbers-end}
+use Rattle.hexlines.proofs.Growing.{wrote-long, Writing, writing-none, numbers-fit, numbers-room, numbers-more, numbers-end}
 use Rattle.hexlines.specs.Outputs.{ones}
 use lib.ListN.{length}
 use Prim.Native.Nat.{_-_}
@@ -7,9 +6,6 @@ use native.Mathlib.Omega.{arith}
 use borrow.Author.Needs.{needs}
 use Rattle.hexlines.proofs.lines.write_numbers.Statement.{statement}
 use Rattle.hexlines.proofs.lines.write_numbers.Tie as tie
-use Rattle.hexlines.proofs.lines.write_numbers.Reads as reads
-use Rattle.hexlines.proofs.lines.write_numbers.Lts as lts
-use Rattle.hexlines.proofs.writing.write_byte.Reads as write-byte-reads
 
 abbrev Inv-loop : tie.InvT-loop
 Inv-loop out₀ at numbers next₀ p₀ out next p = Writing out₀ at (ones numbers) out next p
@@ -17,37 +13,30 @@ Inv-loop out₀ at numbers next₀ p₀ out next p = Writing out₀ at (ones num
 abbrev μ-loop : tie.MeasureT-loop
 μ-loop out₀ at numbers next₀ p₀ out next p = length numbers - p
 
--- src/lines.rt:40:5
 loop-holds : tie.Need-loop-holds Inv-loop μ-loop
 loop-holds c = writing-none _ _ (ones (c .before .before .args .numbers .now)) (numbers-fit (c .before .before .args .out .now) _ (c .before .before .args .numbers .now) (c .before .before .pre))
 
--- src/lines.rt:41:39
 mul-write-byte : tie.Need-mul-write-byte Inv-loop μ-loop
 mul-write-byte c = search needs
 
--- src/lines.rt:41:39
 shared-slice-read-write-byte : tie.Need-shared-slice-read-write-byte Inv-loop μ-loop
 shared-slice-read-write-byte c = search needs
 
--- src/lines.rt:41:38
 cast-write-byte : tie.Need-cast-write-byte Inv-loop μ-loop
 cast-write-byte c = search needs
 
--- src/lines.rt:41:9
 write-byte-requires : tie.Need-write-byte-requires Inv-loop μ-loop
 write-byte-requires c κs =
     let start = c .before .before .before .before .before .before in
-    numbers-room _ _ (start .args .numbers .now) (start .pre) _ _ _ (c .before .before .before .loop .inv) (c .before .before .loop-test .taken)
+    let the-loop = c .before .before .before .loop in
+    numbers-room _ _ (start .args .numbers .now) (start .pre) _ _ _ (the-loop .inv) (c .before .before .loop-test .taken)
 
--- src/lines.rt:42:9
 add-p : tie.Need-add-p Inv-loop μ-loop
 add-p c = search needs
 
--- src/lines.rt:40:5
 loop-less : tie.Need-loop-less Inv-loop μ-loop
 loop-less c = omega arith
 
--- src/lines.rt:40:5
 loop-again : tie.Need-loop-again Inv-loop μ-loop
 loop-again c =
     let start = c .before .before .before .before .before .before .before .before .before in
@@ -55,11 +44,9 @@ loop-again c =
     let the-loop-test = c .before .before .before .before .before .loop-test in
     numbers-more _ _ (start .args .numbers .now) (start .pre) _ _ _ (the-loop .inv) _ _ (the-loop-test .taken) (c .before .before .write-byte .ensures .0) (c .before .before .write-byte .ensures .1)
 
--- src/lines.rt:34:1
 same-length : tie.Need-same-length Inv-loop μ-loop
 same-length c = wrote-long _ _ _ _ _ (c .before .loop .inv .wrote)
 
--- src/lines.rt:34:1
 returns : tie.Need-returns Inv-loop μ-loop
 returns c =
     let start = c .before .before .before .before in

@@ -4,120 +4,88 @@ use native.Mathlib.Omega.{arith}
 use borrow.Author.Needs.{needs}
 use Rattle.maps.proofs.calls.find_cover.Statement.{statement}
 use Rattle.maps.proofs.calls.find_cover.Tie as tie
-use Rattle.maps.proofs.calls.find_cover.Reads as reads
-use Rattle.maps.proofs.calls.find_cover.Lts as lts
-use Rattle.cover.proofs.cover.Reads as cover-reads
-use Rattle.maps.proofs.lists.count_up.Reads as count-up-reads
 
--- src/calls.rt:26:13
 sub-n : tie.Need-sub-n
 sub-n c = search needs
 
--- src/calls.rt:27:13
 add-e : tie.Need-add-e
 add-e c = search needs
 
--- src/calls.rt:36:14
 slice-aggregate-count-up : tie.Need-slice-aggregate-count-up
 slice-aggregate-count-up c = search needs
 
--- src/calls.rt:36:5
 count-up-requires : tie.Need-count-up-requires
 count-up-requires c κs = search needs
 
--- src/calls.rt:42:9
 sub-cover : tie.Need-sub-cover
 sub-cover c = search needs
 
--- src/calls.rt:42:9
 part-cover-start : tie.Need-part-cover-start
 part-cover-start c = search needs
 
--- src/calls.rt:42:9
 part-cover-end : tie.Need-part-cover-end
 part-cover-end c = search needs
 
--- src/calls.rt:44:9
 sub-cover-2 : tie.Need-sub-cover-2
 sub-cover-2 c = search needs
 
--- src/calls.rt:44:9
 part-starts-back-start : tie.Need-part-starts-back-start
 part-starts-back-start c = search needs
 
--- src/calls.rt:44:9
 part-starts-back-end : tie.Need-part-starts-back-end
 part-starts-back-end c = search needs
 
--- src/calls.rt:45:9
 sub-cover-3 : tie.Need-sub-cover-3
 sub-cover-3 c = search needs
 
--- src/calls.rt:45:9
 part-heads-back-start : tie.Need-part-heads-back-start
 part-heads-back-start c = search needs
 
--- src/calls.rt:45:9
 part-heads-back-end : tie.Need-part-heads-back-end
 part-heads-back-end c = search needs
 
--- src/calls.rt:46:9
 sub-cover-4 : tie.Need-sub-cover-4
 sub-cover-4 c = search needs
 
--- src/calls.rt:46:9
 part-weights-back-start : tie.Need-part-weights-back-start
 part-weights-back-start c = search needs
 
--- src/calls.rt:46:9
 part-weights-back-end : tie.Need-part-weights-back-end
 part-weights-back-end c = search needs
 
--- src/calls.rt:47:9
 sub-cover-5 : tie.Need-sub-cover-5
 sub-cover-5 c = search needs
 
--- src/calls.rt:47:9
 part-marks-start : tie.Need-part-marks-start
 part-marks-start c = search needs
 
--- src/calls.rt:47:9
 part-marks-end : tie.Need-part-marks-end
 part-marks-end c = search needs
 
--- src/calls.rt:48:9
 sub-cover-6 : tie.Need-sub-cover-6
 sub-cover-6 c = search needs
 
--- src/calls.rt:48:9
 part-pieces-start : tie.Need-part-pieces-start
 part-pieces-start c = search needs
 
--- src/calls.rt:48:9
 part-pieces-end : tie.Need-part-pieces-end
 part-pieces-end c = search needs
 
--- src/calls.rt:49:9
 sub-cover-7 : tie.Need-sub-cover-7
 sub-cover-7 c = search needs
 
--- src/calls.rt:49:9
 part-sizes-start : tie.Need-part-sizes-start
 part-sizes-start c = search needs
 
--- src/calls.rt:49:9
 part-sizes-end : tie.Need-part-sizes-end
 part-sizes-end c = search needs
 
--- src/calls.rt:37:5
 cover-requires : tie.Need-cover-requires
 cover-requires c κs = search needs
 
--- src/calls.rt:16:1
 same-length : tie.Need-same-length
 same-length c = search needs
 
--- src/calls.rt:16:1
 returns : tie.Need-returns
 returns c =
     let start = c .before .before .before .before .before .before .before .before .before .before .before .before .before .before .before .before .before .before .before .before .before .before .before .before .before in

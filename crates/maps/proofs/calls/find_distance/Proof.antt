@@ -3,147 +3,113 @@ use native.Mathlib.Omega.{arith}
 use borrow.Author.Needs.{needs}
 use Rattle.maps.proofs.calls.find_distance.Statement.{statement}
 use Rattle.maps.proofs.calls.find_distance.Tie as tie
-use Rattle.maps.proofs.calls.find_distance.Reads as reads
-use Rattle.maps.proofs.calls.find_distance.Lts as lts
-use Rattle.distance.proofs.any_pair.Reads as any-pair-reads
 
--- src/calls.rt:102:13
 sub-n : tie.Need-sub-n
 sub-n c = search needs
 
--- src/calls.rt:103:13
 add-e : tie.Need-add-e
 add-e c = search needs
 
--- src/calls.rt:104:17
 mul-twice : tie.Need-mul-twice
 mul-twice c = search needs
 
--- src/calls.rt:126:9
 sub-any-pair : tie.Need-sub-any-pair
 sub-any-pair c = search needs
 
--- src/calls.rt:126:9
 part-starts-back-start : tie.Need-part-starts-back-start
 part-starts-back-start c = search needs
 
--- src/calls.rt:126:9
 part-starts-back-end : tie.Need-part-starts-back-end
 part-starts-back-end c = search needs
 
--- src/calls.rt:127:9
 sub-any-pair-2 : tie.Need-sub-any-pair-2
 sub-any-pair-2 c = search needs
 
--- src/calls.rt:127:9
 part-heads-back-start : tie.Need-part-heads-back-start
 part-heads-back-start c = search needs
 
--- src/calls.rt:127:9
 part-heads-back-end : tie.Need-part-heads-back-end
 part-heads-back-end c = search needs
 
--- src/calls.rt:128:9
 sub-any-pair-3 : tie.Need-sub-any-pair-3
 sub-any-pair-3 c = search needs
 
--- src/calls.rt:128:9
 part-weights-back-start : tie.Need-part-weights-back-start
 part-weights-back-start c = search needs
 
--- src/calls.rt:128:9
 part-weights-back-end : tie.Need-part-weights-back-end
 part-weights-back-end c = search needs
 
--- src/calls.rt:129:9
 sub-any-pair-4 : tie.Need-sub-any-pair-4
 sub-any-pair-4 c = search needs
 
--- src/calls.rt:129:9
 part-outward-start : tie.Need-part-outward-start
 part-outward-start c = search needs
 
--- src/calls.rt:129:9
 part-outward-end : tie.Need-part-outward-end
 part-outward-end c = search needs
 
--- src/calls.rt:130:9
 sub-any-pair-5 : tie.Need-sub-any-pair-5
 sub-any-pair-5 c = search needs
 
--- src/calls.rt:130:9
 part-inward-start : tie.Need-part-inward-start
 part-inward-start c = search needs
 
--- src/calls.rt:130:9
 part-inward-end : tie.Need-part-inward-end
 part-inward-end c = search needs
 
--- src/calls.rt:131:9
 sub-any-pair-6 : tie.Need-sub-any-pair-6
 sub-any-pair-6 c = search needs
 
--- src/calls.rt:131:9
 part-labels-start : tie.Need-part-labels-start
 part-labels-start c = search needs
 
--- src/calls.rt:131:9
 part-labels-end : tie.Need-part-labels-end
 part-labels-end c = search needs
 
--- src/calls.rt:132:9
 sub-any-pair-7 : tie.Need-sub-any-pair-7
 sub-any-pair-7 c = search needs
 
--- src/calls.rt:132:9
 part-heap-start : tie.Need-part-heap-start
 part-heap-start c = search needs
 
--- src/calls.rt:132:9
 part-heap-end : tie.Need-part-heap-end
 part-heap-end c = search needs
 
--- src/calls.rt:133:9
 sub-any-pair-8 : tie.Need-sub-any-pair-8
 sub-any-pair-8 c = search needs
 
--- src/calls.rt:133:9
 part-places-start : tie.Need-part-places-start
 part-places-start c = search needs
 
--- src/calls.rt:133:9
 part-places-end : tie.Need-part-places-end
 part-places-end c = search needs
 
--- src/calls.rt:134:9
 sub-any-pair-9 : tie.Need-sub-any-pair-9
 sub-any-pair-9 c = search needs
 
--- src/calls.rt:134:9
 part-touched-start : tie.Need-part-touched-start
 part-touched-start c = search needs
 
--- src/calls.rt:134:9
 part-touched-end : tie.Need-part-touched-end
-part-touched-end c = omega (arith, c .before .before .before .before .before .before .before .before .before .before .before .before .before .before .before .pre .nodes)
+part-touched-end c =
+    let start = c .before .before .before .before .before .before .before .before .before .before .before .before .before .before .before in
+    omega (arith, start .pre .nodes)
 
--- src/calls.rt:135:9
 sub-any-pair-10 : tie.Need-sub-any-pair-10
 sub-any-pair-10 c = search needs
 
--- src/calls.rt:135:9
 part-blocked-start : tie.Need-part-blocked-start
 part-blocked-start c = search needs
 
--- src/calls.rt:135:9
 part-blocked-end : tie.Need-part-blocked-end
-part-blocked-end c = omega (arith, c .before .before .before .before .before .before .before .before .before .before .before .before .before .before .before .before .pre .nodes)
+part-blocked-end c =
+    let start = c .before .before .before .before .before .before .before .before .before .before .before .before .before .before .before .before in
+    omega (arith, start .pre .nodes)
 
--- src/calls.rt:116:5
 any-pair-requires : tie.Need-any-pair-requires
 any-pair-requires c κs = search needs
 
--- src/calls.rt:88:1
 returns : tie.Need-returns
 returns c =
     let start = c .before .before .before .before .before .before .before .before .before .before .before .before .before .before .before .before .before .before .before .before .before .before .before .before .before .before .before .before in

@@ -3,83 +3,61 @@ use native.Mathlib.Omega.{arith}
 use borrow.Author.Needs.{needs}
 use Rattle.maps.proofs.calls.find_overlay.Statement.{statement}
 use Rattle.maps.proofs.calls.find_overlay.Tie as tie
-use Rattle.maps.proofs.calls.find_overlay.Reads as reads
-use Rattle.maps.proofs.calls.find_overlay.Lts as lts
-use Rattle.overlay.proofs.overlay.Reads as overlay-reads
 
--- src/calls.rt:66:13
 sub-n : tie.Need-sub-n
 sub-n c = search needs
 
--- src/calls.rt:67:17
 mul-twice : tie.Need-mul-twice
 mul-twice c = search needs
 
--- src/calls.rt:80:9
 sub-overlay : tie.Need-sub-overlay
 sub-overlay c = search needs
 
--- src/calls.rt:80:9
 part-labels-start : tie.Need-part-labels-start
 part-labels-start c = search needs
 
--- src/calls.rt:80:9
 part-labels-end : tie.Need-part-labels-end
 part-labels-end c = search needs
 
--- src/calls.rt:81:9
 sub-overlay-2 : tie.Need-sub-overlay-2
 sub-overlay-2 c = search needs
 
--- src/calls.rt:81:9
 part-heap-start : tie.Need-part-heap-start
 part-heap-start c = search needs
 
--- src/calls.rt:81:9
 part-heap-end : tie.Need-part-heap-end
 part-heap-end c = search needs
 
--- src/calls.rt:82:9
 sub-overlay-3 : tie.Need-sub-overlay-3
 sub-overlay-3 c = search needs
 
--- src/calls.rt:82:9
 part-places-start : tie.Need-part-places-start
 part-places-start c = search needs
 
--- src/calls.rt:82:9
 part-places-end : tie.Need-part-places-end
 part-places-end c = search needs
 
--- src/calls.rt:83:9
 sub-overlay-4 : tie.Need-sub-overlay-4
 sub-overlay-4 c = search needs
 
--- src/calls.rt:83:9
 part-touched-start : tie.Need-part-touched-start
 part-touched-start c = search needs
 
--- src/calls.rt:83:9
 part-touched-end : tie.Need-part-touched-end
 part-touched-end c = search needs
 
--- src/calls.rt:72:5
 overlay-requires : tie.Need-overlay-requires
 overlay-requires c κs = search needs
 
--- src/calls.rt:54:1
 same-length : tie.Need-same-length
 same-length c = search needs
 
--- src/calls.rt:54:1
 same-length-2 : tie.Need-same-length-2
 same-length-2 c = search needs
 
--- src/calls.rt:54:1
 same-length-3 : tie.Need-same-length-3
 same-length-3 c = search needs
 
--- src/calls.rt:54:1
 returns : tie.Need-returns
 returns c =
     let start = c .before .before .before .before .before .before .before .before .before .before .before .before .before .before .before .before .before .before .before .before .before .before .before .before .before in

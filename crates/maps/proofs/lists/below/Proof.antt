@@ -2,17 +2,12 @@ use Rattle.road.specs.Counting.{bit}
 use borrow.Author.Tests.{lt-ltb, le-ltb}
 use mathlib.Core.Path.{sym, ap}
 use native.Mathlib.Omega.{arith}
-use borrow.Author.Needs.{needs}
 use Rattle.maps.proofs.lists.below.Statement.{statement}
 use Rattle.maps.proofs.lists.below.Tie as tie
-use Rattle.maps.proofs.lists.below.Reads as reads
-use Rattle.maps.proofs.lists.below.Lts as lts
 
--- src/lists.rt:27:9
 returns : tie.Need-returns
 returns c = (sym (ap bit (lt-ltb _ _ (c .if1 .taken))), omega arith)
 
--- src/lists.rt:23:1
 returns-2 : tie.Need-returns-2
 returns-2 c = (sym (ap bit (le-ltb _ _ (c .if1 .left))), omega arith)
 

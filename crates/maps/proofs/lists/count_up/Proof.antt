@@ -7,8 +7,6 @@ use native.Mathlib.Omega.{arith}
 use borrow.Author.Needs.{needs}
 use Rattle.maps.proofs.lists.count_up.Statement.{statement}
 use Rattle.maps.proofs.lists.count_up.Tie as tie
-use Rattle.maps.proofs.lists.count_up.Reads as reads
-use Rattle.maps.proofs.lists.count_up.Lts as lts
 
 abbrev Inv-loop : tie.InvT-loop
 Inv-loop s₀ i₀ s i = Filled (numbers 0) s₀ i s
@@ -16,39 +14,30 @@ Inv-loop s₀ i₀ s i = Filled (numbers 0) s₀ i s
 abbrev μ-loop : tie.MeasureT-loop
 μ-loop s₀ i₀ s i = length s₀ - i
 
--- src/lists.rt:16:5
 loop-holds : tie.Need-loop-holds Inv-loop μ-loop
 loop-holds c = filled-none (numbers 0) _ refl
 
--- src/lists.rt:17:16
 cast-s : tie.Need-cast-s Inv-loop μ-loop
 cast-s c = search needs
 
--- src/lists.rt:17:9
 mul-s : tie.Need-mul-s Inv-loop μ-loop
 mul-s c = search needs
 
--- src/lists.rt:17:9
 slice-write-s : tie.Need-slice-write-s Inv-loop μ-loop
 slice-write-s c = omega (arith, c .before .loop .inv .long, c .loop-test .taken)
 
--- src/lists.rt:18:9
 add-i : tie.Need-add-i Inv-loop μ-loop
 add-i c = search needs
 
--- src/lists.rt:16:5
 loop-less : tie.Need-loop-less Inv-loop μ-loop
 loop-less c = omega (arith, c .before .loop .inv .long, c .loop-test .taken)
 
--- src/lists.rt:16:5
 loop-again : tie.Need-loop-again Inv-loop μ-loop
 loop-again c = filled-more (numbers 0) _ _ _ _ (omega (arith, c .before .loop .inv .long, c .loop-test .taken)) (counted-more (c .before .loop .i)) (c .before .loop .inv)
 
--- src/lists.rt:11:1
 same-length : tie.Need-same-length Inv-loop μ-loop
 same-length c = c .before .loop .inv .long
 
--- src/lists.rt:11:1
 returns : tie.Need-returns Inv-loop μ-loop
 returns c = filled-all (numbers 0) _ _ _ (omega (arith, c .before .loop .inv .long, c .loop-test .left)) (c .before .loop .inv)
 

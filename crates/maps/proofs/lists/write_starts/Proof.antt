@@ -7,9 +7,6 @@ use native.Mathlib.Omega.{arith}
 use borrow.Author.Needs.{needs}
 use Rattle.maps.proofs.lists.write_starts.Statement.{statement}
 use Rattle.maps.proofs.lists.write_starts.Tie as tie
-use Rattle.maps.proofs.lists.write_starts.Reads as reads
-use Rattle.maps.proofs.lists.write_starts.Lts as lts
-use Rattle.maps.proofs.lists.count_below.Reads as count-below-reads
 
 abbrev Inv-loop : tie.InvT-loop
 Inv-loop tails starts₀ v₀ starts v = Filled (belows tails 0) starts₀ v starts
@@ -17,43 +14,38 @@ Inv-loop tails starts₀ v₀ starts v = Filled (belows tails 0) starts₀ v sta
 abbrev μ-loop : tie.MeasureT-loop
 μ-loop tails starts₀ v₀ starts v = length starts₀ - v
 
--- src/lists.rt:52:5
 loop-holds : tie.Need-loop-holds Inv-loop μ-loop
 loop-holds c = filled-none (belows (c .before .before .args .tails .now) 0) _ refl
 
--- src/lists.rt:53:21
 count-below-requires : tie.Need-count-below-requires Inv-loop μ-loop
-count-below-requires c κs = c .before .before .before .before .pre
+count-below-requires c κs =
+    let start = c .before .before .before .before in
+    start .pre
 
--- src/lists.rt:53:9
 mul-starts : tie.Need-mul-starts Inv-loop μ-loop
 mul-starts c = search needs
 
--- src/lists.rt:53:9
 slice-write-starts : tie.Need-slice-write-starts Inv-loop μ-loop
 slice-write-starts c = omega (arith, c .before .before .loop .inv .long, c .before .loop-test .taken)
 
--- src/lists.rt:54:9
 add-v : tie.Need-add-v Inv-loop μ-loop
 add-v c = search needs
 
--- src/lists.rt:52:5
 loop-less : tie.Need-loop-less Inv-loop μ-loop
 loop-less c = omega (arith, c .before .before .loop .inv .long, c .before .loop-test .taken)
 
--- src/lists.rt:52:5
 loop-again : tie.Need-loop-again Inv-loop μ-loop
 loop-again c =
     let start = c .before .before .before .before .before in
     filled-more (belows (start .args .tails .now) 0) _ _ _ _ (omega (arith, c .before .before .loop .inv .long, c .before .loop-test .taken)) (belows-more (start .args .tails .now) (c .before .before .loop .v) _ (c .count-below .ensures)) (c .before .before .loop .inv)
 
--- src/lists.rt:47:1
 same-length : tie.Need-same-length Inv-loop μ-loop
 same-length c = c .before .loop .inv .long
 
--- src/lists.rt:47:1
 returns : tie.Need-returns Inv-loop μ-loop
-returns c = filled-all (belows (c .before .before .before .before .args .tails .now) 0) _ _ _ (omega (arith, c .before .loop .inv .long, c .loop-test .left)) (c .before .loop .inv)
+returns c =
+    let start = c .before .before .before .before in
+    filled-all (belows (start .args .tails .now) 0) _ _ _ (omega (arith, c .before .loop .inv .long, c .loop-test .left)) (c .before .loop .inv)
 
 pub write-starts-spec : {M : Type 1} → statement M
 write-starts-spec =

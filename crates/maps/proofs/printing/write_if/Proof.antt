@@ -5,27 +5,21 @@ use native.Mathlib.Omega.{arith}
 use borrow.Author.Needs.{needs}
 use Rattle.maps.proofs.printing.write_if.Statement.{statement}
 use Rattle.maps.proofs.printing.write_if.Tie as tie
-use Rattle.maps.proofs.printing.write_if.Reads as reads
-use Rattle.maps.proofs.printing.write_if.Lts as lts
-use Rattle.hexlines.proofs.write_point.Reads as write-point-reads
 
--- src/printing.rt:19:8
 shared-slice-read-if1 : tie.Need-shared-slice-read-if1
 shared-slice-read-if1 c = search needs
 
--- src/printing.rt:20:9
 write-point-requires : tie.Need-write-point-requires
 write-point-requires c κs = search needs
 
--- src/printing.rt:20:9
 same-length : tie.Need-same-length
 same-length c = search needs
 
--- src/printing.rt:20:9
 returns : tie.Need-returns
-returns c = point-yes _ _ _ _ _ _ (c .before .before .before .before .if1 .taken) (c .before .before .write-point .ensures)
+returns c =
+    let the-if1 = c .before .before .before .before .if1 in
+    point-yes _ _ _ _ _ _ (the-if1 .taken) (c .before .before .write-point .ensures)
 
--- src/printing.rt:14:1
 returns-2 : tie.Need-returns-2
 returns-2 c =
     let start = c .before .before .before .before in

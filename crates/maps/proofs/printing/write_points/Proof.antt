@@ -5,9 +5,6 @@ use native.Mathlib.Omega.{arith}
 use borrow.Author.Needs.{needs}
 use Rattle.maps.proofs.printing.write_points.Statement.{statement}
 use Rattle.maps.proofs.printing.write_points.Tie as tie
-use Rattle.maps.proofs.printing.write_points.Reads as reads
-use Rattle.maps.proofs.printing.write_points.Lts as lts
-use Rattle.maps.proofs.printing.write_if.Reads as write-if-reads
 
 abbrev Inv-loop : tie.InvT-loop
 Inv-loop out₀ at set next₀ v₀ out next v = Points out₀ at set v out next
@@ -15,25 +12,20 @@ Inv-loop out₀ at set next₀ v₀ out next v = Points out₀ at set v out next
 abbrev μ-loop : tie.MeasureT-loop
 μ-loop out₀ at set next₀ v₀ out next v = length set - v
 
--- src/printing.rt:32:5
 loop-holds : tie.Need-loop-holds Inv-loop μ-loop
 loop-holds c = points-none (c .before .before .args .out .now) _ (c .before .before .args .set .now) (c .before .before .pre)
 
--- src/printing.rt:33:9
 write-if-requires : tie.Need-write-if-requires Inv-loop μ-loop
 write-if-requires c κs =
     let start = c .before .before .before .before .before in
     (c .before .loop-test .taken, points-room (start .args .out .now) _ (start .args .set .now) (start .pre) _ _ _ (c .before .before .loop .inv) (c .before .loop-test .taken))
 
--- src/printing.rt:34:9
 add-v : tie.Need-add-v Inv-loop μ-loop
 add-v c = search needs
 
--- src/printing.rt:32:5
 loop-less : tie.Need-loop-less Inv-loop μ-loop
 loop-less c = omega arith
 
--- src/printing.rt:32:5
 loop-again : tie.Need-loop-again Inv-loop μ-loop
 loop-again c =
     let start = c .before .before .before .before .before .before .before .before in
@@ -41,13 +33,11 @@ loop-again c =
     let the-loop-test = c .before .before .before .before .loop-test in
     points-more (start .args .out .now) _ (start .args .set .now) (start .pre) _ _ _ (the-loop .inv) _ _ (the-loop-test .taken) (c .before .before .write-if .ensures)
 
--- src/printing.rt:26:1
 same-length : tie.Need-same-length Inv-loop μ-loop
 same-length c =
     let start = c .before .before .before .before in
     points-long (start .args .out .now) _ (start .args .set .now) (start .pre) _ _ _ (c .before .loop .inv)
 
--- src/printing.rt:26:1
 returns : tie.Need-returns Inv-loop μ-loop
 returns c =
     let start = c .before .before .before .before in

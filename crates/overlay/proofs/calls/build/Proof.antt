@@ -1,4 +1,4 @@
-use mathlib.Core.Path.{_≡_, sym, _∙_}
+use mathlib.Core.Path.{sym, _∙_}
 use native.Mathlib.Omega.{arith}
 use Rattle.overlay.proofs.Outcomes.{ready-to-search, road-light, room-enough, full-so, built-so, zeros-of}
 use borrow.Author.Needs.{needs}

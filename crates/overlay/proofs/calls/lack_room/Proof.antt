@@ -1,7 +1,6 @@
 use native.Mathlib.Omega.{arith}
 use mathlib.Core.Logic.{inl, inr, ⊎-elim}
 use Rattle.road.proofs.Refusals.{tells-yes, tells-no}
-use borrow.Author.Needs.{needs}
 use Rattle.overlay.proofs.calls.lack_room.Statement.{statement}
 use Rattle.overlay.proofs.calls.lack_room.Tie as tie
 

@@ -1,9 +1,10 @@
-use Prim.Native.Nat.{ℕ, _+_, _-_, _≤_, _<_}
+use Prim.Native.Nat.{_-_, _≤_}
 use lib.ListN.{length}
 use native.Mathlib.Omega.{arith}
 use Rattle.road.proofs.Refusals.{refuses, passes}
 use Rattle.overlay.proofs.Ends.{rows-none, rows-more, refused-by, graph-faulty, graph-sound, all-in}
-use Rattle.overlay.specs.Lent.{BadOverlay, EndsBelow}
+use Rattle.overlay.specs.Lent.{BadOverlay}
+use Rattle.overlay.specs.workings.Ends.{EndsBelow}
 use borrow.Author.Needs.{needs}
 use Rattle.overlay.proofs.checking.check_overlay.Statement.{statement}
 use Rattle.overlay.proofs.checking.check_overlay.Tie as tie
@@ -27,10 +28,14 @@ enum-told-2 : tie.Need-enum-told-2 Inv-loop μ-loop
 enum-told-2 c = search needs
 
 returns : tie.Need-returns Inv-loop μ-loop
-returns c = refuses (graph-faulty _ _ _ _ _ (rw (c .before .before .before .overlay-limits .ensures) at (c .before .before .check-graph .ensures)) _ (c .enum-told2 .given .1))
+returns c =
+    let the-overlay-limits = c .before .before .before .overlay-limits in
+    refuses (graph-faulty _ _ _ _ _ (rw (the-overlay-limits .ensures) at (c .before .before .check-graph .ensures)) _ (c .enum-told2 .given .1))
 
 sub-if1 : tie.Need-sub-if1 Inv-loop μ-loop
-sub-if1 c = omega (arith, graph-sound _ _ _ _ (rw (c .before .before .before .overlay-limits .ensures) at (c .before .before .check-graph .ensures)) (c .enum-told .given .1) .sized .least)
+sub-if1 c =
+    let the-overlay-limits = c .before .before .before .overlay-limits in
+    omega (arith, graph-sound _ _ _ _ (rw (the-overlay-limits .ensures) at (c .before .before .check-graph .ensures)) (c .enum-told .given .1) .sized .least)
 
 returns-2 : tie.Need-returns-2 Inv-loop μ-loop
 returns-2 c = refuses (BadOverlay.unlike (λ e. c .if1 .taken (omega (arith, e))))
@@ -42,7 +47,8 @@ check-row-requires : tie.Need-check-row-requires Inv-loop μ-loop
 check-row-requires c κs =
     let the-overlay-limits = c .before .before .before .before .before .before .overlay-limits in
     let the-check-graph = c .before .before .before .before .before .check-graph in
-    (graph-sound _ _ _ _ (rw (the-overlay-limits .ensures) at (the-check-graph .ensures)) (c .before .before .before .enum-told .given .1), (omega (arith, c .before .before .if1 .left, graph-sound _ _ _ _ (rw (the-overlay-limits .ensures) at (the-check-graph .ensures)) (c .before .before .before .enum-told .given .1) .sized .least), c .loop-test .taken))
+    let the-enum-told = c .before .before .before .enum-told in
+    (graph-sound _ _ _ _ (rw (the-overlay-limits .ensures) at (the-check-graph .ensures)) (the-enum-told .given .1), (omega (arith, c .before .before .if1 .left, graph-sound _ _ _ _ (rw (the-overlay-limits .ensures) at (the-check-graph .ensures)) (the-enum-told .given .1) .sized .least), c .loop-test .taken))
 
 enum-told-3 : tie.Need-enum-told-3 Inv-loop μ-loop
 enum-told-3 c = search needs
@@ -60,13 +66,17 @@ loop-less : tie.Need-loop-less Inv-loop μ-loop
 loop-less c = search needs
 
 loop-again : tie.Need-loop-again Inv-loop μ-loop
-loop-again c = (rows-more _ _ _ _ (c .before .before .before .before .loop .inv .0) (c .before .before .check-row .ensures .passed (c .enum-told3 .given .1)), omega (arith, c .before .before .before .loop-test .taken))
+loop-again c =
+    let the-loop = c .before .before .before .before .loop in
+    let the-loop-test = c .before .before .before .loop-test in
+    (rows-more _ _ _ _ (the-loop .inv .0) (c .before .before .check-row .ensures .passed (c .enum-told3 .given .1)), omega (arith, the-loop-test .taken))
 
 returns-4 : tie.Need-returns-4 Inv-loop μ-loop
 returns-4 c =
     let the-overlay-limits = c .before .before .before .before .before .before .overlay-limits in
     let the-check-graph = c .before .before .before .before .before .check-graph in
-    passes (all-in _ _ _ _ _ (rw (the-overlay-limits .ensures) at (the-check-graph .ensures)) (c .before .before .before .enum-told .given .1) _ (omega (arith, c .before .before .if1 .left, graph-sound _ _ _ _ (rw (the-overlay-limits .ensures) at (the-check-graph .ensures)) (c .before .before .before .enum-told .given .1) .sized .least)) (search needs) (c .before .loop .inv .0))
+    let the-enum-told = c .before .before .before .enum-told in
+    passes (all-in _ _ _ _ _ (rw (the-overlay-limits .ensures) at (the-check-graph .ensures)) (the-enum-told .given .1) _ (omega (arith, c .before .before .if1 .left, graph-sound _ _ _ _ (rw (the-overlay-limits .ensures) at (the-check-graph .ensures)) (the-enum-told .given .1) .sized .least)) (search needs) (c .before .loop .inv .0))
 
 pub check-overlay-spec : {M : Type 1} → statement M
 check-overlay-spec =

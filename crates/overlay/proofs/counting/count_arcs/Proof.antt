@@ -1,9 +1,9 @@
-use Prim.Native.Nat.{ℕ, _+_, _-_, _≤_, _<_}
+use Prim.Native.Nat.{_-_, _≤_}
 use Rattle.road.specs.Roads.{road}
 use Rattle.overlay.specs.Overlays.{Arcs}
 use lib.ListN.{length}
 use native.Mathlib.Omega.{arith}
-use mathlib.Core.Path.{_≡_, refl, sym, ap, _∙_}
+use mathlib.Core.Path.{_≡_, refl, ap, _∙_}
 use Rattle.overlay.proofs.Rooms.{searching-again, arcs-all}
 use borrow.Author.Needs.{needs}
 use Rattle.overlay.proofs.counting.count_arcs.Statement.{statement}
@@ -22,7 +22,8 @@ count-tail-requires : tie.Need-count-tail-requires Inv-loop μ-loop
 count-tail-requires c κs =
     let start = c .before .before .before .before .before .before .before .before .before .before .before .before in
     let the-loop = c .before .before .before .before .loop in
-    (searching-again _ _ _ _ _ _ _ (start .pre) _ _ _ (the-loop .inv .2) (the-loop .inv .3) (the-loop .inv .4), (omega (arith, c .before .before .before .loop-test .taken, start .pre .bytes), the-loop .inv .0))
+    let the-loop-test = c .before .before .before .loop-test in
+    (searching-again _ _ _ _ _ _ _ (start .pre) _ _ _ (the-loop .inv .2) (the-loop .inv .3) (the-loop .inv .4), (omega (arith, the-loop-test .taken, start .pre .bytes), the-loop .inv .0))
 
 add-tail : tie.Need-add-tail Inv-loop μ-loop
 add-tail c = search needs

@@ -1,5 +1,5 @@
 use native.Mathlib.Omega.{arith}
-use mathlib.Core.Path.{_≡_, refl, sym, _∙_}
+use mathlib.Core.Path.{refl}
 use Rattle.overlay.proofs.Rooms.{asks-of, tail-skipped, tail-fits, tail-counted}
 use borrow.Author.Needs.{needs}
 use Rattle.overlay.proofs.counting.count_tail.Statement.{statement}

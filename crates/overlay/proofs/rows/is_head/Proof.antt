@@ -23,7 +23,9 @@ returns-3 : tie.Need-returns-3
 returns-3 c = tells-no (λ f. f .label (omega (arith, c .if3 .taken)))
 
 returns-4 : tie.Need-returns-4
-returns-4 c = tells-yes (record { head = c .before .before .before .if1 .left; apart = λ e. c .before .before .if2 .left (omega (arith, e)); label = λ e. c .if3 .left (omega (arith, e)) })
+returns-4 c =
+    let the-if1 = c .before .before .before .if1 in
+    tells-yes (record { head = the-if1 .left; apart = λ e. c .before .before .if2 .left (omega (arith, e)); label = λ e. c .if3 .left (omega (arith, e)) })
 
 pub is-head-spec : {M : Type 1} → statement M
 is-head-spec =

@@ -1,9 +1,8 @@
 use Rattle.overlay.proofs.Written.{as-wide, one-less}
-use borrow.Author.Needs.{scaled-fits}
-use Rattle.overlay.specs.Writing.{Found, put, left}
-use mathlib.Core.Path.{_≡_, sym, refl}
+use borrow.Author.Needs.{scaled-fits, needs}
+use Rattle.overlay.specs.workings.Writing.{put, left}
+use mathlib.Core.Path.{refl}
 use native.Mathlib.Omega.{arith}
-use borrow.Author.Needs.{needs}
 use Rattle.overlay.proofs.rows.write_arc.Statement.{statement}
 use Rattle.overlay.proofs.rows.write_arc.Tie as tie
 
@@ -16,10 +15,14 @@ cast-heads : tie.Need-cast-heads
 cast-heads c = search needs
 
 mul-heads : tie.Need-mul-heads
-mul-heads c = scaled-fits _ _ 4 (c .before .before .before .before .before .before .pre .free (c .before .is-head .ensures .yes (c .if1 .taken))) (search needs)
+mul-heads c =
+    let start = c .before .before .before .before .before .before in
+    scaled-fits _ _ 4 (start .pre .free (c .before .is-head .ensures .yes (c .if1 .taken))) (search needs)
 
 slice-write-heads : tie.Need-slice-write-heads
-slice-write-heads c = c .before .before .before .before .before .before .pre .free (c .before .is-head .ensures .yes (c .if1 .taken))
+slice-write-heads c =
+    let start = c .before .before .before .before .before .before in
+    start .pre .free (c .before .is-head .ensures .yes (c .if1 .taken))
 
 mul-weights : tie.Need-mul-weights
 mul-weights c = search needs
@@ -31,7 +34,9 @@ sub-weights : tie.Need-sub-weights
 sub-weights c = omega (arith, (c .before .before .is-head .ensures .yes (c .before .if1 .taken)) .label)
 
 cast-weights : tie.Need-cast-weights
-cast-weights c = omega (arith, c .before .before .before .before .before .before .before .pre .fits .fits _ (c .before .before .is-head .ensures .yes (c .before .if1 .taken)))
+cast-weights c =
+    let start = c .before .before .before .before .before .before .before in
+    omega (arith, start .pre .fits .fits _ (c .before .before .is-head .ensures .yes (c .before .if1 .taken)))
 
 mul-weights-2 : tie.Need-mul-weights-2
 mul-weights-2 c =
@@ -44,7 +49,9 @@ slice-write-weights c =
     omega (arith, start .pre .free (c .before .before .is-head .ensures .yes (c .before .if1 .taken)), start .pre .alike)
 
 add-t11 : tie.Need-add-t11
-add-t11 c = omega (arith, c .before .before .before .before .before .before .before .pre .free (c .before .before .is-head .ensures .yes (c .before .if1 .taken)))
+add-t11 c =
+    let start = c .before .before .before .before .before .before .before in
+    omega (arith, start .pre .free (c .before .before .is-head .ensures .yes (c .before .if1 .taken)))
 
 same-length : tie.Need-same-length
 same-length c = search needs

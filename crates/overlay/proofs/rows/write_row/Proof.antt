@@ -1,9 +1,9 @@
-use Prim.Native.Nat.{ℕ, _+_, _-_, _≤_, _<_}
+use Prim.Native.Nat.{_-_, _≤_}
 use native.Mathlib.Omega.{arith}
 use lib.ListN.{length}
 use Rattle.overlay.proofs.Locals.{room-left}
 use Rattle.overlay.proofs.Written.{wrote-none, wrote-more, wrote-all}
-use Rattle.overlay.specs.Writing.{Wrote}
+use Rattle.overlay.specs.workings.Writing.{Wrote}
 use borrow.Author.Needs.{needs}
 use Rattle.overlay.proofs.rows.write_row.Statement.{statement}
 use Rattle.overlay.proofs.rows.write_row.Tie as tie
@@ -20,7 +20,8 @@ loop-holds c = (wrote-none _ _ _ _ _, omega arith)
 write-arc-requires : tie.Need-write-arc-requires Inv-loop μ-loop
 write-arc-requires c κs =
     let start = c .before .before .before .before .before .before .before .before in
-    record { node = search needs; few = start .pre .1 .0; labelled = start .pre .0; fits = start .pre .1 .1 .1 .0; free = λ f. omega (arith, room-left _ _ _ _ _ _ (start .pre .1 .1 .1 .1) (c .before .before .loop-test .taken) (c .before .before .before .loop .inv .0 .number) f, c .before .before .before .loop .inv .0 .heads-long); alike = omega (arith, c .before .before .before .loop .inv .0 .heads-long, c .before .before .before .loop .inv .0 .weights-long, start .pre .1 .1 .0) }
+    let the-loop = c .before .before .before .loop in
+    record { node = search needs; few = start .pre .1 .0; labelled = start .pre .0; fits = start .pre .1 .1 .1 .0; free = λ f. omega (arith, room-left _ _ _ _ _ _ (start .pre .1 .1 .1 .1) (c .before .before .loop-test .taken) (the-loop .inv .0 .number) f, the-loop .inv .0 .heads-long); alike = omega (arith, the-loop .inv .0 .heads-long, the-loop .inv .0 .weights-long, start .pre .1 .1 .0) }
 
 add-v : tie.Need-add-v Inv-loop μ-loop
 add-v c = search needs

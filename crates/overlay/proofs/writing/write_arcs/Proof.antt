@@ -1,9 +1,9 @@
-use Prim.Native.Nat.{ℕ, _+_, _-_, _≤_, _<_}
+use Prim.Native.Nat.{_-_, _≤_}
 use Rattle.road.specs.Roads.{road}
-use Rattle.overlay.specs.Writing.{Building}
+use Rattle.overlay.specs.workings.Writing.{Building}
 use lib.ListN.{length}
 use native.Mathlib.Omega.{arith}
-use mathlib.Core.Path.{_≡_, refl, sym, ap, _∙_}
+use mathlib.Core.Path.{_≡_, refl, ap, _∙_}
 use Rattle.overlay.proofs.Rooms.{searching-again, counts-fit, enough-again, building-none, building-more, building-all}
 use borrow.Author.Needs.{needs}
 use Rattle.overlay.proofs.writing.write_arcs.Statement.{statement}
@@ -16,7 +16,9 @@ abbrev μ-loop : tie.MeasureT-loop
 μ-loop starts heads weights set over-starts₀ over-heads₀ over-weights₀ labels₀ heap₀ places₀ count₀ tail₀ over-starts over-heads over-weights labels heap places count tail = length set - tail
 
 slice-write-over-starts : tie.Need-slice-write-over-starts Inv-loop μ-loop
-slice-write-over-starts c = omega (arith, c .before .before .before .before .before .before .before .before .before .before .pre .1 .1 .1 .0)
+slice-write-over-starts c =
+    let start = c .before .before .before .before .before .before .before .before .before .before in
+    omega (arith, start .pre .1 .1 .1 .0)
 
 loop-holds : tie.Need-loop-holds Inv-loop μ-loop
 loop-holds c =
@@ -65,7 +67,9 @@ loop-again c =
     (building-more _ _ _ _ _ _ _ _ _ (the-loop .inv .0) (omega (arith, the-loop-test .taken, start .pre .0 .bytes)) _ _ _ _ (the-write-tail .ensures .0) refl, omega (arith, the-loop-test .taken), the-write-tail .kept .1 .1 .1 .1 .1 .1 .0 ∙ the-loop .inv .2, the-write-tail .ensures .1 .0 ∙ the-loop .inv .3, the-write-tail .ensures .1 .1 ∙ the-loop .inv .4)
 
 same-length : tie.Need-same-length Inv-loop μ-loop
-same-length c = omega (arith, c .before .loop .inv .0 .long, c .before .before .before .before .before .before .before .before .before .before .before .before .pre .1 .1 .1 .0)
+same-length c =
+    let start = c .before .before .before .before .before .before .before .before .before .before .before .before in
+    omega (arith, c .before .loop .inv .0 .long, start .pre .1 .1 .1 .0)
 
 same-length-2 : tie.Need-same-length-2 Inv-loop μ-loop
 same-length-2 c = c .before .loop .inv .0 .heads-long

@@ -1,5 +1,5 @@
 use native.Mathlib.Omega.{arith}
-use mathlib.Core.Path.{_≡_, refl, sym, _∙_}
+use mathlib.Core.Path.{refl}
 use Rattle.overlay.proofs.Rooms.{asks-of, few-bytes, counts-fit, tail-left, tail-fits, tail-written, behind, parts-alike, row-fits, row-room, as-far}
 use borrow.Author.Needs.{needs}
 use Rattle.overlay.proofs.writing.write_tail.Statement.{statement}

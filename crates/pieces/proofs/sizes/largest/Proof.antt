@@ -1,5 +1,5 @@
 use Rattle.pieces.proofs.Rows.{RowTo, row-none, row-listed, row-node, row-more, row-end, below-more-of}
-use Rattle.pieces.specs.Pieces.{Below}
+use Rattle.pieces.specs.workings.Pieces.{Below}
 use Prim.Native.Nat.{_-_}
 use borrow.Author.Needs.{needs, scaled-fits}
 use Rattle.pieces.proofs.sizes.largest.Statement.{statement}
@@ -11,49 +11,31 @@ Inv-loop starts heads cover sizes v but end i₀ best₀ i best = RowTo starts h
 abbrev μ-loop : tie.MeasureT-loop
 μ-loop starts heads cover sizes v but end i₀ best₀ i best = end - i
 
-add-wide : tie.Need-add-wide Inv-loop μ-loop
-add-wide c = search needs
-
-mul-wide : tie.Need-mul-wide Inv-loop μ-loop
-mul-wide c = search needs
-
-shared-slice-read-wide : tie.Need-shared-slice-read-wide Inv-loop μ-loop
-shared-slice-read-wide c = search needs
-
-wide-requires : tie.Need-wide-requires Inv-loop μ-loop
-wide-requires c κs = search needs
-
-mul-wide-2 : tie.Need-mul-wide-2 Inv-loop μ-loop
-mul-wide-2 c = search needs
-
-shared-slice-read-wide-2 : tie.Need-shared-slice-read-wide-2 Inv-loop μ-loop
-shared-slice-read-wide-2 c = search needs
-
-wide-requires-2 : tie.Need-wide-requires-2 Inv-loop μ-loop
-wide-requires-2 c κs = search needs
+row-requires : tie.Need-row-requires Inv-loop μ-loop
+row-requires c κs = search needs
 
 loop-holds : tie.Need-loop-holds Inv-loop μ-loop
 loop-holds c =
-    let start = c .before .before .before .before .before .before .before .before in
-    row-none _ _ _ _ _ (start .pre .0) (start .pre .1 .1) (c .before .before .wide .ensures) _ _ (c .wide2 .ensures)
+    let start = c .before .before .before .before .before in
+    row-none _ _ _ _ _ (start .pre .0) (start .pre .1 .1) (c .row .ensures .end) _ _ (c .row .ensures .first)
 
 mul-size-of : tie.Need-mul-size-of Inv-loop μ-loop
 mul-size-of c =
-    let start = c .before .before .before .before .before .before .before .before .before .before in
-    let the-wide = c .before .before .before .before .wide in
-    scaled-fits _ _ 4 (row-listed _ _ _ _ _ (start .pre .0) (start .pre .1 .1) (the-wide .ensures) _ (c .before .loop .inv) (c .loop-test .taken)) (search needs)
+    let start = c .before .before .before .before .before .before .before in
+    let the-row = c .before .before .row in
+    scaled-fits _ _ 4 (row-listed _ _ _ _ _ (start .pre .0) (start .pre .1 .1) (the-row .ensures .end) _ (c .before .loop .inv) (c .loop-test .taken)) (search needs)
 
 shared-slice-read-size-of : tie.Need-shared-slice-read-size-of Inv-loop μ-loop
 shared-slice-read-size-of c =
-    let start = c .before .before .before .before .before .before .before .before .before .before .before in
-    let the-wide = c .before .before .before .before .before .wide in
-    row-listed _ _ _ _ _ (start .pre .0) (start .pre .1 .1) (the-wide .ensures) _ (c .before .before .loop .inv) (c .before .loop-test .taken)
+    let start = c .before .before .before .before .before .before .before .before in
+    let the-row = c .before .before .before .row in
+    row-listed _ _ _ _ _ (start .pre .0) (start .pre .1 .1) (the-row .ensures .end) _ (c .before .before .loop .inv) (c .before .loop-test .taken)
 
 size-of-requires : tie.Need-size-of-requires Inv-loop μ-loop
 size-of-requires c κs =
-    let start = c .before .before .before .before .before .before .before .before .before .before .before in
-    let the-wide = c .before .before .before .before .before .wide in
-    (start .pre .1 .0, row-node _ _ _ _ _ (start .pre .0) (start .pre .1 .1) (the-wide .ensures) _ (c .before .before .loop .inv) (c .before .loop-test .taken))
+    let start = c .before .before .before .before .before .before .before .before in
+    let the-row = c .before .before .before .row in
+    (start .pre .1 .0, row-node _ _ _ _ _ (start .pre .0) (start .pre .1 .1) (the-row .ensures .end) _ (c .before .before .loop .inv) (c .before .loop-test .taken))
 
 larger-requires : tie.Need-larger-requires Inv-loop μ-loop
 larger-requires c κs = search needs
@@ -67,13 +49,14 @@ loop-less c = search needs
 loop-again : tie.Need-loop-again Inv-loop μ-loop
 loop-again c =
     let the-loop = c .before .before .before .before .loop in
-    row-more _ _ _ _ _ _ _ (the-loop .inv) (c .before .before .before .loop-test .taken) (below-more-of _ _ _ _ _ (c .larger .ensures .left)) (below-more-of _ _ _ _ _ (c .larger .ensures .right) _ (c .before .size-of .ensures))
+    let the-loop-test = c .before .before .before .loop-test in
+    row-more _ _ _ _ _ _ _ (the-loop .inv) (the-loop-test .taken) (below-more-of _ _ _ _ _ (c .larger .ensures .left)) (below-more-of _ _ _ _ _ (c .larger .ensures .right) _ (c .before .size-of .ensures))
 
 returns : tie.Need-returns Inv-loop μ-loop
 returns c =
-    let start = c .before .before .before .before .before .before .before .before .before .before in
-    let the-wide = c .before .before .before .before .wide in
-    row-end _ _ _ _ _ (start .pre .0) (start .pre .1 .1) (the-wide .ensures) _ (c .before .loop .inv) (c .loop-test .left)
+    let start = c .before .before .before .before .before .before .before in
+    let the-row = c .before .before .row in
+    row-end _ _ _ _ _ (start .pre .0) (start .pre .1 .1) (the-row .ensures .end) _ (c .before .loop .inv) (c .loop-test .left)
 
 pub largest-spec : {M : Type 1} → statement M
 largest-spec =
@@ -81,13 +64,7 @@ largest-spec =
     (tie.spec
     Inv-loop
     μ-loop
-    add-wide
-    mul-wide
-    shared-slice-read-wide
-    wide-requires
-    mul-wide-2
-    shared-slice-read-wide-2
-    wide-requires-2
+    row-requires
     loop-holds
     mul-size-of
     shared-slice-read-size-of

@@ -2,7 +2,7 @@ use lib.ListN.{getD}
 use Prim.Native.Nat.{ℕ}
 use mathlib.Core.Path.{ap}
 use Rattle.pieces.proofs.Spreading.{push-room, raises-one, raised-one}
-use Rattle.pieces.specs.Pieces.{none}
+use Rattle.pieces.specs.workings.Pieces.{none}
 use native.Mathlib.Omega.{arith}
 use borrow.Author.Needs.{needs}
 use Rattle.pieces.proofs.sizes.raise.Statement.{statement}
@@ -44,7 +44,8 @@ mul-pieces c = search needs
 slice-write-pieces : tie.Need-slice-write-pieces
 slice-write-pieces c =
     let start = c .before .before .before .before .before .before .before .before .before .before in
-    push-room (start .args .sizes .now) _ _ (c .wide3 .ensures) (omega (arith, start .pre .0, start .pre .1 .1)) (omega (arith, c .before .if2 .left, ap (λ (z : ℕ). getD (start .args .sizes .now) z 0) (c .before .before .before .wide2 .ensures))) _ _ (start .pre .1 .0)
+    let the-wide2 = c .before .before .before .wide2 in
+    push-room (start .args .sizes .now) _ _ (c .wide3 .ensures) (omega (arith, start .pre .0, start .pre .1 .1)) (omega (arith, c .before .if2 .left, ap (λ (z : ℕ). getD (start .args .sizes .now) z 0) (the-wide2 .ensures))) _ _ (start .pre .1 .0)
 
 add-result : tie.Need-add-result
 add-result c = search needs
@@ -58,7 +59,8 @@ same-length-2 c = search needs
 returns-3 : tie.Need-returns-3
 returns-3 c =
     let start = c .before .before .before .before .before .before .before .before .before .before in
-    (raises-one (start .args .sizes .now) _ _ (c .wide3 .ensures) (omega (arith, start .pre .0, start .pre .1 .1)) (omega (arith, c .before .if2 .left, ap (λ (z : ℕ). getD (start .args .sizes .now) z 0) (c .before .before .before .wide2 .ensures))) _ _, raised-one (start .args .sizes .now) _ _ (c .wide3 .ensures) (omega (arith, start .pre .0, start .pre .1 .1)) (omega (arith, c .before .if2 .left, ap (λ (z : ℕ). getD (start .args .sizes .now) z 0) (c .before .before .before .wide2 .ensures))) _)
+    let the-wide2 = c .before .before .before .wide2 in
+    (raises-one (start .args .sizes .now) _ _ (c .wide3 .ensures) (omega (arith, start .pre .0, start .pre .1 .1)) (omega (arith, c .before .if2 .left, ap (λ (z : ℕ). getD (start .args .sizes .now) z 0) (the-wide2 .ensures))) _ _, raised-one (start .args .sizes .now) _ _ (c .wide3 .ensures) (omega (arith, start .pre .0, start .pre .1 .1)) (omega (arith, c .before .if2 .left, ap (λ (z : ℕ). getD (start .args .sizes .now) z 0) (the-wide2 .ensures))) _)
 
 pub raise-spec : {M : Type 1} → statement M
 raise-spec =

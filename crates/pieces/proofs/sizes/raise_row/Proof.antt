@@ -2,7 +2,7 @@ use mathlib.Core.Path.{_∙_}
 use borrow.Author.Needs.{needs, scaled-fits}
 use Rattle.pieces.proofs.Spreading.{raises-long, room-after, raises-then, raises-grown, raised-still}
 use Rattle.pieces.proofs.Rows.{RowTo, row-none, row-listed, row-node, row-more, row-end}
-use Rattle.pieces.specs.Pieces.{Raises, none, Raised}
+use Rattle.pieces.specs.workings.Pieces.{Raises, none, Raised}
 use Prim.Native.Nat.{_-_}
 use Rattle.pieces.proofs.sizes.raise_row.Statement.{statement}
 use Rattle.pieces.proofs.sizes.raise_row.Tie as tie
@@ -13,51 +13,36 @@ Inv-loop starts heads cover pieces₀ sizes₀ waiting r x end i₀ count₀ pie
 abbrev μ-loop : tie.MeasureT-loop
 μ-loop starts heads cover pieces₀ sizes₀ waiting r x end i₀ count₀ pieces sizes i count = end - i
 
-add-wide : tie.Need-add-wide Inv-loop μ-loop
-add-wide c = search needs
-
-mul-wide : tie.Need-mul-wide Inv-loop μ-loop
-mul-wide c = search needs
-
-shared-slice-read-wide : tie.Need-shared-slice-read-wide Inv-loop μ-loop
-shared-slice-read-wide c = search needs
-
-wide-requires : tie.Need-wide-requires Inv-loop μ-loop
-wide-requires c κs = search needs
-
-mul-wide-2 : tie.Need-mul-wide-2 Inv-loop μ-loop
-mul-wide-2 c = search needs
-
-shared-slice-read-wide-2 : tie.Need-shared-slice-read-wide-2 Inv-loop μ-loop
-shared-slice-read-wide-2 c = search needs
-
-wide-requires-2 : tie.Need-wide-requires-2 Inv-loop μ-loop
-wide-requires-2 c κs = search needs
+row-requires : tie.Need-row-requires Inv-loop μ-loop
+row-requires c κs = search needs
 
 loop-holds : tie.Need-loop-holds Inv-loop μ-loop
 loop-holds c =
-    let start = c .before .before .before .before .before .before .before .before .before in
-    (none, row-none _ _ _ _ _ (start .pre .0) (start .pre .1 .1 .1) (c .before .before .wide .ensures) _ _ (c .wide2 .ensures))
+    let start = c .before .before .before .before .before .before in
+    (none, row-none _ _ _ _ _ (start .pre .0) (start .pre .1 .1 .1) (c .row .ensures .end) _ _ (c .row .ensures .first))
 
 mul-raise : tie.Need-mul-raise Inv-loop μ-loop
 mul-raise c =
-    let start = c .before .before .before .before .before .before .before .before .before .before .before .before .before in
-    let the-wide = c .before .before .before .before .before .before .wide in
-    scaled-fits _ _ 4 (row-listed _ _ _ _ _ (start .pre .0) (start .pre .1 .1 .1) (the-wide .ensures) _ (c .before .before .before .loop .inv .1) (c .before .before .loop-test .taken)) (search needs)
+    let start = c .before .before .before .before .before .before .before .before .before .before in
+    let the-row = c .before .before .before .before .row in
+    let the-loop = c .before .before .before .loop in
+    scaled-fits _ _ 4 (row-listed _ _ _ _ _ (start .pre .0) (start .pre .1 .1 .1) (the-row .ensures .end) _ (the-loop .inv .1) (c .before .before .loop-test .taken)) (search needs)
 
 shared-slice-read-raise : tie.Need-shared-slice-read-raise Inv-loop μ-loop
 shared-slice-read-raise c =
-    let start = c .before .before .before .before .before .before .before .before .before .before .before .before .before .before in
-    let the-wide = c .before .before .before .before .before .before .before .wide in
+    let start = c .before .before .before .before .before .before .before .before .before .before .before in
+    let the-row = c .before .before .before .before .before .row in
     let the-loop = c .before .before .before .before .loop in
-    row-listed _ _ _ _ _ (start .pre .0) (start .pre .1 .1 .1) (the-wide .ensures) _ (the-loop .inv .1) (c .before .before .before .loop-test .taken)
+    let the-loop-test = c .before .before .before .loop-test in
+    row-listed _ _ _ _ _ (start .pre .0) (start .pre .1 .1 .1) (the-row .ensures .end) _ (the-loop .inv .1) (the-loop-test .taken)
 
 raise-requires : tie.Need-raise-requires Inv-loop μ-loop
 raise-requires c κs =
-    let start = c .before .before .before .before .before .before .before .before .before .before .before .before .before .before in
-    let the-wide = c .before .before .before .before .before .before .before .wide in
+    let start = c .before .before .before .before .before .before .before .before .before .before .before in
+    let the-row = c .before .before .before .before .before .row in
     let the-loop = c .before .before .before .before .loop in
-    (raises-long (the-loop .inv .0) .0 ∙ start .pre .1 .0, (room-after (the-loop .inv .0) (start .pre .1 .1 .0), row-node _ _ _ _ _ (start .pre .0) (start .pre .1 .1 .1) (the-wide .ensures) _ (the-loop .inv .1) (c .before .before .before .loop-test .taken)))
+    let the-loop-test = c .before .before .before .loop-test in
+    (raises-long (the-loop .inv .0) .0 ∙ start .pre .1 .0, (room-after (the-loop .inv .0) (start .pre .1 .1 .0), row-node _ _ _ _ _ (start .pre .0) (start .pre .1 .1 .1) (the-row .ensures .end) _ (the-loop .inv .1) (the-loop-test .taken)))
 
 add-i : tie.Need-add-i Inv-loop μ-loop
 add-i c = search needs
@@ -80,9 +65,9 @@ same-length-2 c = raises-long (c .before .loop .inv .0) .0
 
 returns : tie.Need-returns Inv-loop μ-loop
 returns c =
-    let start = c .before .before .before .before .before .before .before .before .before .before .before in
-    let the-wide = c .before .before .before .before .wide in
-    (c .before .loop .inv .0, row-end _ _ _ _ _ (start .pre .0) (start .pre .1 .1 .1) (the-wide .ensures) _ (c .before .loop .inv .1) (c .loop-test .left))
+    let start = c .before .before .before .before .before .before .before .before in
+    let the-row = c .before .before .row in
+    (c .before .loop .inv .0, row-end _ _ _ _ _ (start .pre .0) (start .pre .1 .1 .1) (the-row .ensures .end) _ (c .before .loop .inv .1) (c .loop-test .left))
 
 pub raise-row-spec : {M : Type 1} → statement M
 raise-row-spec =
@@ -90,13 +75,7 @@ raise-row-spec =
     (tie.spec
     Inv-loop
     μ-loop
-    add-wide
-    mul-wide
-    shared-slice-read-wide
-    wide-requires
-    mul-wide-2
-    shared-slice-read-wide-2
-    wide-requires-2
+    row-requires
     loop-holds
     mul-raise
     shared-slice-read-raise

@@ -28,7 +28,8 @@ largest-requires c κs =
 largest-requires-2 : tie.Need-largest-requires-2
 largest-requires-2 c κs =
     let start = c .before .before .before .before .before .before .before .before .before .before .before .before .before in
-    (search-back _ _ _ _ _ _ _ (start .pre .0), (start .pre .1 .1 .0 .sizes-long, omega (arith, c .before .before .before .wide .ensures, start .pre .1 .1 .1)))
+    let the-wide = c .before .before .before .wide in
+    (search-back _ _ _ _ _ _ _ (start .pre .0), (start .pre .1 .1 .0 .sizes-long, omega (arith, the-wide .ensures, start .pre .1 .1 .1)))
 
 larger-requires : tie.Need-larger-requires
 larger-requires c κs = search needs

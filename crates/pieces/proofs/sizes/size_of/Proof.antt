@@ -31,7 +31,9 @@ wide-requires-3 : tie.Need-wide-requires-3
 wide-requires-3 c κs = search needs
 
 returns-3 : tie.Need-returns-3
-returns-3 c = record { below = λ d n. omega (arith, c .wide3 .ensures, ap (λ (z : ℕ). getD (c .before .before .before .before .before .before .before .before .before .args .sizes .now) z 0) (c .before .before .wide2 .ensures)) }
+returns-3 c =
+    let start = c .before .before .before .before .before .before .before .before .before in
+    record { below = λ d n. omega (arith, c .wide3 .ensures, ap (λ (z : ℕ). getD (start .args .sizes .now) z 0) (c .before .before .wide2 .ensures)) }
 
 pub size-of-spec : {M : Type 1} → statement M
 size-of-spec =

@@ -16,7 +16,9 @@ abbrev μ-loop : tie.MeasureT-loop
 μ-loop starts heads weights starts-back heads-back weights-back cover pieces₀ sizes₀ r i₀ count₀ pieces sizes i count = length pieces - i
 
 loop-holds : tie.Need-loop-holds Inv-loop μ-loop
-loop-holds c = spreading-none (c .before .before .before .before .before .before .before .before .before .pre .1)
+loop-holds c =
+    let start = c .before .before .before .before .before .before .before .before .before in
+    spreading-none (start .pre .1)
 
 mul-wide : tie.Need-mul-wide Inv-loop μ-loop
 mul-wide c = scaled-fits _ _ 4 (spreading-place (c .before .loop .inv) (c .loop-test .taken)) (search needs)
@@ -65,10 +67,14 @@ loop-again c =
     spreading-more _ _ _ _ _ _ _ _ _ (start .pre .0 .turned .round) (the-loop .inv) (the-loop-test .taken) _ (the-wide .ensures) (the-raise-row .ensures .0) (the-raise-row .ensures .1) (the-raise-row2 .ensures .0) (the-raise-row2 .ensures .1)
 
 same-length : tie.Need-same-length Inv-loop μ-loop
-same-length c = c .before .loop .inv .spreads .pieces-long ∙ sym (c .before .before .before .before .before .before .before .before .before .before .before .pre .1 .pieces-long)
+same-length c =
+    let start = c .before .before .before .before .before .before .before .before .before .before .before in
+    c .before .loop .inv .spreads .pieces-long ∙ sym (start .pre .1 .pieces-long)
 
 same-length-2 : tie.Need-same-length-2 Inv-loop μ-loop
-same-length-2 c = c .before .loop .inv .spreads .sizes-long ∙ sym (c .before .before .before .before .before .before .before .before .before .before .before .pre .1 .sizes-long)
+same-length-2 c =
+    let start = c .before .before .before .before .before .before .before .before .before .before .before in
+    c .before .loop .inv .spreads .sizes-long ∙ sym (start .pre .1 .sizes-long)
 
 returns : tie.Need-returns Inv-loop μ-loop
 returns c = spreading-end (c .before .loop .inv) (c .loop-test .left)

@@ -3,64 +3,51 @@ use mathlib.Core.Path.{refl, _∙_}
 use borrow.Author.Needs.{needs}
 use Rattle.readings.proofs.bytes.read_drive.Statement.{statement}
 use Rattle.readings.proofs.bytes.read_drive.Tie as tie
-use Rattle.readings.proofs.bytes.read_drive.Reads as reads
-use Rattle.readings.proofs.bytes.read_drive.Lts as lts
-use Rattle.readings.proofs.bytes.byte.Reads as byte-reads
-use Rattle.readings.proofs.bytes.read_nodes.Reads as read-nodes-reads
-use Rattle.road.proofs.wide.Reads as wide-reads
 
--- src/bytes.rt:94:9
 returns : tie.Need-returns
-returns c = record { tells = (drive-short _ (c .before .before .before .args .bytes .now) (c .before .before .before .pre) (c .if1 .taken), refl) }
+returns c =
+    let start = c .before .before .before in
+    record { tells = (drive-short _ (start .args .bytes .now) (start .pre) (c .if1 .taken), refl) }
 
--- src/bytes.rt:96:27
 shared-slice-read-byte : tie.Need-shared-slice-read-byte
 shared-slice-read-byte c = search needs
 
--- src/bytes.rt:96:22
 byte-requires : tie.Need-byte-requires
 byte-requires c κs = search needs
 
--- src/bytes.rt:96:9
 wide-requires : tie.Need-wide-requires
 wide-requires c κs = search needs
 
--- src/bytes.rt:97:27
 mul-if2 : tie.Need-mul-if2
 mul-if2 c = search needs
 
--- src/bytes.rt:97:23
 add-if2 : tie.Need-add-if2
 add-if2 c = search needs
 
--- src/bytes.rt:98:9
 returns-2 : tie.Need-returns-2
 returns-2 c =
     let start = c .before .before .before .before .before .before .before in
     record { tells = (drive-length _ (start .args .bytes .now) (start .pre) _ (c .before .wide .ensures ∙ c .before .before .byte .ensures .0) (c .if2 .taken), refl) }
 
--- src/bytes.rt:101:9
 returns-3 : tie.Need-returns-3
 returns-3 c =
     let start = c .before .before .before .before .before .before .before .before in
-    record { tells = (drive-many _ (start .args .bytes .now) (start .pre) _ (c .before .before .wide .ensures ∙ c .before .before .before .byte .ensures .0) (c .before .if2 .left) (c .if3 .taken), refl) }
+    let the-byte = c .before .before .before .byte in
+    record { tells = (drive-many _ (start .args .bytes .now) (start .pre) _ (c .before .before .wide .ensures ∙ the-byte .ensures .0) (c .before .if2 .left) (c .if3 .taken), refl) }
 
--- src/bytes.rt:104:9
 returns-4 : tie.Need-returns-4
 returns-4 c =
     let start = c .before .before .before .before .before .before .before .before .before in
     let the-byte = c .before .before .before .before .byte in
-    record { tells = (drive-room _ (start .args .bytes .now) (start .pre) _ (c .before .before .before .wide .ensures ∙ the-byte .ensures .0) (c .before .before .if2 .left) (c .if4 .taken), refl) }
+    let the-wide = c .before .before .before .wide in
+    record { tells = (drive-room _ (start .args .bytes .now) (start .pre) _ (the-wide .ensures ∙ the-byte .ensures .0) (c .before .before .if2 .left) (c .if4 .taken), refl) }
 
--- src/bytes.rt:106:5
 read-nodes-requires : tie.Need-read-nodes-requires
 read-nodes-requires c κs = search needs
 
--- src/bytes.rt:89:1
 same-length : tie.Need-same-length
 same-length c = search needs
 
--- src/bytes.rt:89:1
 returns-5 : tie.Need-returns-5
 returns-5 c =
     let start = c .before .before .before .before .before .before .before .before .before .before .before .before .before in

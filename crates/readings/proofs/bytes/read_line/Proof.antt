@@ -1,55 +1,43 @@
-use Rattle.readings.proofs.Shapes.{line-fits}
+use Rattle.readings.proofs.Shapes.{line-fits, line-wrong, line-read}
 use native.Mathlib.Omega.{arith}
-use Rattle.readings.proofs.Shapes.{line-wrong, line-read}
 use borrow.Author.Needs.{needs}
 use Rattle.readings.proofs.bytes.read_line.Statement.{statement}
 use Rattle.readings.proofs.bytes.read_line.Tie as tie
-use Rattle.readings.proofs.bytes.read_line.Reads as reads
-use Rattle.readings.proofs.bytes.read_line.Lts as lts
-use Rattle.readings.proofs.bytes.read_frame.Reads as read-frame-reads
-use Rattle.readings.proofs.characters.read_text.Reads as read-text-reads
 
--- src/bytes.rt:138:32
 slice-aggregate-read-text : tie.Need-slice-aggregate-read-text
 slice-aggregate-read-text c = search needs
 
--- src/bytes.rt:138:9
 read-text-requires : tie.Need-read-text-requires
 read-text-requires c κs = search needs
 
--- src/bytes.rt:139:21
 enum-known-text : tie.Need-enum-known-text
 enum-known-text c = search needs
 
--- src/bytes.rt:140:9
 enum-told : tie.Need-enum-told
 enum-told c = search needs
 
--- src/bytes.rt:140:9
 returns : tie.Need-returns
-returns c = line-wrong _ _ _ _ (c .enum-told .given .1) (c .before .before .before .read-text .ensures)
+returns c =
+    let the-read-text = c .before .before .before .read-text in
+    line-wrong _ _ _ _ (c .enum-told .given .1) (the-read-text .ensures)
 
--- src/bytes.rt:142:16
 sub-read-frame : tie.Need-sub-read-frame
 sub-read-frame c = search needs
 
--- src/bytes.rt:142:16
 part-read-frame-start : tie.Need-part-read-frame-start
 part-read-frame-start c = search needs
 
--- src/bytes.rt:142:16
 part-read-frame-end : tie.Need-part-read-frame-end
-part-read-frame-end c = omega (arith, line-fits _ _ _ _ (c .before .before .text .given .1) (c .before .before .before .before .before .read-text .ensures))
+part-read-frame-end c =
+    let the-read-text = c .before .before .before .before .before .read-text in
+    omega (arith, line-fits _ _ _ _ (c .before .before .text .given .1) (the-read-text .ensures))
 
--- src/bytes.rt:142:5
 read-frame-requires : tie.Need-read-frame-requires
 read-frame-requires c κs = search needs
 
--- src/bytes.rt:134:1
 same-length : tie.Need-same-length
 same-length c = search needs
 
--- src/bytes.rt:134:1
 returns-2 : tie.Need-returns-2
 returns-2 c =
     let the-read-text = c .before .before .before .before .before .before .before .before .before .before .read-text in

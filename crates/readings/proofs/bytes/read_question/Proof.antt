@@ -3,23 +3,16 @@ use mathlib.Core.Path.{refl}
 use borrow.Author.Needs.{needs}
 use Rattle.readings.proofs.bytes.read_question.Statement.{statement}
 use Rattle.readings.proofs.bytes.read_question.Tie as tie
-use Rattle.readings.proofs.bytes.read_question.Reads as reads
-use Rattle.readings.proofs.bytes.read_question.Lts as lts
-use Rattle.readings.proofs.bytes.two_at.Reads as two-at-reads
 
--- src/bytes.rt:69:9
 returns : tie.Need-returns
 returns c = fixed-wrong _ (λ room. question-length room (c .before .before .args .bytes .now) (c .before .before .pre) (c .if1 .taken))
 
--- src/bytes.rt:71:9
 two-at-requires : tie.Need-two-at-requires
 two-at-requires c κs = search needs
 
--- src/bytes.rt:72:9
 two-at-requires-2 : tie.Need-two-at-requires-2
 two-at-requires-2 c κs = search needs
 
--- src/bytes.rt:64:1
 returns-2 : tie.Need-returns-2
 returns-2 c =
     let start = c .before .before .before .before in

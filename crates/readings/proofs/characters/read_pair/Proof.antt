@@ -2,37 +2,31 @@ use Rattle.readings.proofs.Digits.{pair-no-high, pair-no-low, pair-yes}
 use borrow.Author.Needs.{needs}
 use Rattle.readings.proofs.characters.read_pair.Statement.{statement}
 use Rattle.readings.proofs.characters.read_pair.Tie as tie
-use Rattle.readings.proofs.characters.read_pair.Reads as reads
-use Rattle.readings.proofs.characters.read_pair.Lts as lts
-use Rattle.readings.proofs.characters.value.Reads as value-reads
 
--- src/characters.rt:30:9
 value-requires : tie.Need-value-requires
 value-requires c κs = search needs
 
--- src/characters.rt:31:9
 value-requires-2 : tie.Need-value-requires-2
 value-requires-2 c κs = search needs
 
--- src/characters.rt:33:9
 returns : tie.Need-returns
 returns c = pair-no-high _ _ _ _ (c .before .before .value .ensures) (c .before .value2 .ensures) (c .if1 .taken)
 
--- src/characters.rt:36:9
 returns-2 : tie.Need-returns-2
-returns-2 c = pair-no-low _ _ _ _ (c .before .before .before .value .ensures) (c .before .before .value2 .ensures) (c .if2 .taken)
+returns-2 c =
+    let the-value = c .before .before .before .value in
+    pair-no-low _ _ _ _ (the-value .ensures) (c .before .before .value2 .ensures) (c .if2 .taken)
 
--- src/characters.rt:38:16
 mul-t6 : tie.Need-mul-t6
 mul-t6 c = search needs
 
--- src/characters.rt:38:16
 add-t7 : tie.Need-add-t7
 add-t7 c = search needs
 
--- src/characters.rt:27:1
 returns-3 : tie.Need-returns-3
-returns-3 c = pair-yes _ _ _ _ (c .before .before .before .value .ensures) (c .before .before .value2 .ensures) (c .before .if1 .left) (c .if2 .left)
+returns-3 c =
+    let the-value = c .before .before .before .value in
+    pair-yes _ _ _ _ (the-value .ensures) (c .before .before .value2 .ensures) (c .before .if1 .left) (c .if2 .left)
 
 pub read-pair-spec : {M : Type 1} → statement M
 read-pair-spec =

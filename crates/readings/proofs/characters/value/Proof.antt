@@ -2,30 +2,22 @@ use Rattle.readings.proofs.Digits.{none-below, none-between, none-above
 use borrow.Author.Needs.{needs}
 use Rattle.readings.proofs.characters.value.Statement.{statement}
 use Rattle.readings.proofs.characters.value.Tie as tie
-use Rattle.readings.proofs.characters.value.Reads as reads
-use Rattle.readings.proofs.characters.value.Lts as lts
 
--- src/characters.rt:12:9
 returns : tie.Need-returns
 returns c = none-below _ (c .if1 .taken)
 
--- src/characters.rt:15:9
 returns-2 : tie.Need-returns-2
 returns-2 c = value-low _ (c .before .if1 .left) (c .if2 .taken)
 
--- src/characters.rt:18:9
 returns-3 : tie.Need-returns-3
 returns-3 c = none-between _ (c .before .if2 .left) (c .if3 .taken)
 
--- src/characters.rt:21:16
 sub-result : tie.Need-sub-result
 sub-result c = search needs
 
--- src/characters.rt:21:9
 returns-4 : tie.Need-returns-4
 returns-4 c = value-high _ (c .before .if3 .left) (c .if4 .taken)
 
--- src/characters.rt:8:1
 returns-5 : tie.Need-returns-5
 returns-5 c = none-above _ (c .if4 .left)
 

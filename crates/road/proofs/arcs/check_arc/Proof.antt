@@ -22,7 +22,9 @@ returns : tie.Need-returns
 returns c = judges-refused (first-outside _ _ _ _ _ (record { outside = omega arith }))
 
 returns-2 : tie.Need-returns-2
-returns-2 c = judges-refused (first-loop _ _ _ _ _ (λ o. omega (arith, o .outside)) (record { tail = _; owned = c .before .before .before .before .before .before .before .pre .owned; same = omega arith }))
+returns-2 c =
+    let start = c .before .before .before .before .before .before .before in
+    judges-refused (first-loop _ _ _ _ _ (λ o. omega (arith, o .outside)) (record { tail = _; owned = start .pre .owned; same = omega arith }))
 
 head-falls-requires : tie.Need-head-falls-requires
 head-falls-requires c κs = search needs
@@ -42,13 +44,15 @@ returns-4 : tie.Need-returns-4
 returns-4 c =
     let start = c .before .before .before .before .before .before .before .before .before .before .before in
     let the-if2 = c .before .before .before .before .if2 in
-    judges-refused (first-heavy _ _ _ _ _ (λ o. omega (arith, o .outside)) (head-apart _ _ _ _ _ (start .pre) (λ e. the-if2 .left (omega arith))) (c .before .before .before .head-falls .ensures .no (c .before .before .if3 .left)) (record { over = c .if4 .taken }))
+    let the-head-falls = c .before .before .before .head-falls in
+    judges-refused (first-heavy _ _ _ _ _ (λ o. omega (arith, o .outside)) (head-apart _ _ _ _ _ (start .pre) (λ e. the-if2 .left (omega arith))) (the-head-falls .ensures .no (c .before .before .if3 .left)) (record { over = c .if4 .taken }))
 
 returns-5 : tie.Need-returns-5
 returns-5 c =
     let start = c .before .before .before .before .before .before .before .before .before .before .before in
     let the-if2 = c .before .before .before .before .if2 in
-    judges-passed (arc-clear _ _ _ _ _ (λ o. omega (arith, o .outside)) (head-apart _ _ _ _ _ (start .pre) (λ e. the-if2 .left (omega arith))) (c .before .before .before .head-falls .ensures .no (c .before .before .if3 .left)) (λ o. omega (arith, o .over)))
+    let the-head-falls = c .before .before .before .head-falls in
+    judges-passed (arc-clear _ _ _ _ _ (λ o. omega (arith, o .outside)) (head-apart _ _ _ _ _ (start .pre) (λ e. the-if2 .left (omega arith))) (the-head-falls .ensures .no (c .before .before .if3 .left)) (λ o. omega (arith, o .over)))
 
 pub check-arc-spec : {M : Type 1} → statement M
 check-arc-spec =

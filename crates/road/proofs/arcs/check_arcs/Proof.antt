@@ -1,11 +1,11 @@
 use Rattle.road.proofs.Refusals.{judged-passed, judged-refused}
 use Rattle.road.proofs.Scans.{clear-at, clear-none, found-none}
-use Rattle.road.specs.Scans.{Clear}
+use Rattle.road.specs.workings.Scans.{Clear}
 use Rattle.road.specs.Roads.{nodesOf}
-use mathlib.Core.Path.{_≡_, refl, sym, ap, subst, _∙_}
+use mathlib.Core.Path.{_≡_, sym, ap, _∙_}
 use native.Mathlib.Omega.{arith}
-use lib.ListN.{length, getD}
-use Prim.Native.Nat.{ℕ, suc, _+_, _-_, _≤_, _<_}
+use lib.ListN.{getD}
+use Prim.Native.Nat.{ℕ, _-_, _≤_}
 use borrow.Author.Needs.{needs}
 use Rattle.road.proofs.arcs.check_arcs.Statement.{statement}
 use Rattle.road.proofs.arcs.check_arcs.Tie as tie
@@ -20,13 +20,17 @@ abbrev μ-loop : tie.MeasureT-loop
 μ-loop starts heads weights limits tail₀ tail = nodesOf starts - tail
 
 loop-holds : tie.Need-loop-holds Inv-loop μ-loop
-loop-holds c = (omega arith, clear-at _ _ _ _ _ _ (sym (c .before .before .before .pre .rising .begins)) (clear-none _ _ _ _))
+loop-holds c =
+    let start = c .before .before .before in
+    (omega arith, clear-at _ _ _ _ _ _ (sym (start .pre .rising .begins)) (clear-none _ _ _ _))
 
 sub-loop : tie.Need-sub-loop Inv-loop μ-loop
 sub-loop c = search needs
 
 check-row-requires : tie.Need-check-row-requires Inv-loop μ-loop
-check-row-requires c κs = (c .before .before .before .before .before .pre, (c .loop-test .taken, c .before .loop .inv .1))
+check-row-requires c κs =
+    let start = c .before .before .before .before .before in
+    (start .pre, (c .loop-test .taken, c .before .loop .inv .1))
 
 enum-told : tie.Need-enum-told Inv-loop μ-loop
 enum-told c = search needs

@@ -1,8 +1,8 @@
 use Rattle.road.proofs.Scans.{clear-at, clear-more, placed, found}
-use Rattle.road.specs.Scans.{ClearTo}
+use Rattle.road.specs.workings.Scans.{ClearTo}
 use native.Mathlib.Omega.{arith}
-use lib.ListN.{length, getD}
-use Prim.Native.Nat.{ℕ, suc, _+_, _-_, _≤_, _<_}
+use lib.ListN.{getD}
+use Prim.Native.Nat.{_-_, _≤_}
 use borrow.Author.Needs.{needs}
 use Rattle.road.proofs.arcs.check_row.Statement.{statement}
 use Rattle.road.proofs.arcs.check_row.Tie as tie
@@ -13,35 +13,17 @@ Inv-loop starts heads weights limits tail end p₀ p = (getD starts tail 0 ≤ p
 abbrev μ-loop : tie.MeasureT-loop
 μ-loop starts heads weights limits tail end p₀ p = end - p
 
-add-wide : tie.Need-add-wide Inv-loop μ-loop
-add-wide c = search needs
-
-mul-wide : tie.Need-mul-wide Inv-loop μ-loop
-mul-wide c = search needs
-
-shared-slice-read-wide : tie.Need-shared-slice-read-wide Inv-loop μ-loop
-shared-slice-read-wide c = search needs
-
-wide-requires : tie.Need-wide-requires Inv-loop μ-loop
-wide-requires c κs = search needs
-
-mul-wide-2 : tie.Need-mul-wide-2 Inv-loop μ-loop
-mul-wide-2 c = search needs
-
-shared-slice-read-wide-2 : tie.Need-shared-slice-read-wide-2 Inv-loop μ-loop
-shared-slice-read-wide-2 c = search needs
-
-wide-requires-2 : tie.Need-wide-requires-2 Inv-loop μ-loop
-wide-requires-2 c κs = search needs
+row-requires : tie.Need-row-requires Inv-loop μ-loop
+row-requires c κs = search needs
 
 loop-holds : tie.Need-loop-holds Inv-loop μ-loop
 loop-holds c =
-    let start = c .before .before .before .before .before .before .before in
+    let start = c .before .before .before .before in
     (omega arith, omega (arith, start .pre .0 .rising .rises (start .args .tail) (omega arith)), clear-at _ _ _ _ _ _ (omega arith) (start .pre .1 .1))
 
 check-arc-requires : tie.Need-check-arc-requires Inv-loop μ-loop
 check-arc-requires c κs =
-    let start = c .before .before .before .before .before .before .before .before .before in
+    let start = c .before .before .before .before .before .before in
     placed _ _ _ (start .pre .0) _ _ (start .pre .1 .0) (c .before .loop .inv .0) (omega arith)
 
 enum-told : tie.Need-enum-told Inv-loop μ-loop
@@ -52,7 +34,7 @@ enum-told-2 c = search needs
 
 returns : tie.Need-returns Inv-loop μ-loop
 returns c =
-    let start = c .before .before .before .before .before .before .before .before .before .before .before .before in
+    let start = c .before .before .before .before .before .before .before .before .before in
     let the-loop = c .before .before .before .before .loop in
     rw (c .enum-told2 .given .1)
     (found _ _ _ _ _ _ (placed _ _ _ (start .pre .0) _ _ (start .pre .1 .0) (the-loop .inv .0) (omega arith) .head)
@@ -66,7 +48,9 @@ loop-less : tie.Need-loop-less Inv-loop μ-loop
 loop-less c = search needs
 
 loop-again : tie.Need-loop-again Inv-loop μ-loop
-loop-again c = (omega arith, omega arith, clear-more _ _ _ _ _ (c .before .before .before .before .loop .inv .2) (c .before .before .check-arc .ensures .passed (c .enum-told .given .1)))
+loop-again c =
+    let the-loop = c .before .before .before .before .loop in
+    (omega arith, omega arith, clear-more _ _ _ _ _ (the-loop .inv .2) (c .before .before .check-arc .ensures .passed (c .enum-told .given .1)))
 
 returns-2 : tie.Need-returns-2 Inv-loop μ-loop
 returns-2 c = clear-at _ _ _ _ _ _ (omega arith) (c .before .loop .inv .2)
@@ -77,13 +61,7 @@ check-row-spec =
     (tie.spec
     Inv-loop
     μ-loop
-    add-wide
-    mul-wide
-    shared-slice-read-wide
-    wide-requires
-    mul-wide-2
-    shared-slice-read-wide-2
-    wide-requires-2
+    row-requires
     loop-holds
     check-arc-requires
     enum-told

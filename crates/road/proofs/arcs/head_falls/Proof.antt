@@ -15,7 +15,9 @@ wide-requires : tie.Need-wide-requires
 wide-requires c κs = search needs
 
 returns : tie.Need-returns
-returns c = tells-no (first-of-row _ _ _ _ _ (c .before .before .before .before .before .before .pre) (omega arith))
+returns c =
+    let start = c .before .before .before .before .before .before in
+    tells-no (first-of-row _ _ _ _ _ (start .pre) (omega arith))
 
 mul-if2 : tie.Need-mul-if2
 mul-if2 c = search needs
@@ -33,10 +35,14 @@ shared-slice-read-if2-2 : tie.Need-shared-slice-read-if2-2
 shared-slice-read-if2-2 c = search needs
 
 returns-2 : tie.Need-returns-2
-returns-2 c = tells-yes (falls-after _ _ _ _ _ (c .before .before .before .before .before .before .before .before .before .pre) (omega arith) (omega arith))
+returns-2 c =
+    let start = c .before .before .before .before .before .before .before .before .before in
+    tells-yes (falls-after _ _ _ _ _ (start .pre) (omega arith) (omega arith))
 
 returns-3 : tie.Need-returns-3
-returns-3 c = tells-no (rises-after _ _ _ _ _ (c .before .before .before .before .before .before .before .before .before .pre) (omega arith) (omega arith))
+returns-3 c =
+    let start = c .before .before .before .before .before .before .before .before .before in
+    tells-no (rises-after _ _ _ _ _ (start .pre) (omega arith) (omega arith))
 
 pub head-falls-spec : {M : Type 1} → statement M
 head-falls-spec =

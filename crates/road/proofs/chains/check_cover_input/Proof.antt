@@ -21,7 +21,9 @@ enum-told-2 : tie.Need-enum-told-2
 enum-told-2 c = search needs
 
 returns : tie.Need-returns
-returns c = stops (graphFaults roadLimits _ _ _) _ (c .enum-told2 .given .1) (rw (c .before .before .before .road-limits .ensures) at (c .before .before .check-graph .ensures))
+returns c =
+    let the-road-limits = c .before .before .before .road-limits in
+    stops (graphFaults roadLimits _ _ _) _ (c .enum-told2 .given .1) (rw (the-road-limits .ensures) at (c .before .before .check-graph .ensures))
 
 check-k-requires : tie.Need-check-k-requires
 check-k-requires c κs = search needs
@@ -36,7 +38,8 @@ returns-2 : tie.Need-returns-2
 returns-2 c =
     let the-road-limits = c .before .before .before .before .before .before .road-limits in
     let the-check-graph = c .before .before .before .before .before .check-graph in
-    goes-on (graphFaults roadLimits _ _ _) _ (c .before .before .before .enum-told .given .1) (rw (the-road-limits .ensures) at (the-check-graph .ensures))
+    let the-enum-told = c .before .before .before .enum-told in
+    goes-on (graphFaults roadLimits _ _ _) _ (the-enum-told .given .1) (rw (the-road-limits .ensures) at (the-check-graph .ensures))
     (stops (_ ∷ []) _ (c .enum-told4 .given .1) (judged-alone (c .before .before .check-k .ensures)))
 
 node-count-requires : tie.Need-node-count-requires

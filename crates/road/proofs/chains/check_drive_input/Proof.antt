@@ -24,7 +24,9 @@ check-drive-requires : tie.Need-check-drive-requires
 check-drive-requires c κs = sorted-of _ _ _ _ (sound-of _ _ _ _ (none-front (graphFaults roadLimits _ _ _) (setFault _ _ ∷ []) (c .before .before .check-road-and-set .ensures .passed (c .enum-told .given .1))))
 
 returns-2 : tie.Need-returns-2
-returns-2 c = goes-on (roadAndSetFaults _ _ _ _) _ (c .before .enum-told .given .1) (c .before .before .before .check-road-and-set .ensures) (judged-alone (c .check-drive .ensures))
+returns-2 c =
+    let the-check-road-and-set = c .before .before .before .check-road-and-set in
+    goes-on (roadAndSetFaults _ _ _ _) _ (c .before .enum-told .given .1) (the-check-road-and-set .ensures) (judged-alone (c .check-drive .ensures))
 
 pub check-drive-input-spec : {M : Type 1} → statement M
 check-drive-input-spec =

@@ -29,21 +29,24 @@ enum-told-4 c = search needs
 returns-2 : tie.Need-returns-2
 returns-2 c =
     let the-check-sizes = c .before .before .before .before .before .check-sizes in
-    goes-on (_ ∷ []) _ (c .before .before .before .enum-told .given .1) (judged-alone (the-check-sizes .ensures))
+    let the-enum-told = c .before .before .before .enum-told in
+    goes-on (_ ∷ []) _ (the-enum-told .given .1) (judged-alone (the-check-sizes .ensures))
     (stops (_ ∷ []) _ (c .enum-told4 .given .1) (judged-alone (c .before .before .check-starts .ensures)))
 
 check-arcs-requires : tie.Need-check-arcs-requires
 check-arcs-requires c κs =
     let the-check-sizes = c .before .before .before .before .before .check-sizes in
-    listed-of _ _ _ _ (sized-of _ _ _ _ (unheld (the-check-sizes .ensures .passed (c .before .before .before .enum-told .given .1))))
+    let the-enum-told = c .before .before .before .enum-told in
+    listed-of _ _ _ _ (sized-of _ _ _ _ (unheld (the-check-sizes .ensures .passed (the-enum-told .given .1))))
     (rising-of _ _ (unheld (c .before .before .check-starts .ensures .passed (c .enum-told3 .given .1))))
 
 returns-3 : tie.Need-returns-3
 returns-3 c =
     let the-check-sizes = c .before .before .before .before .before .before .check-sizes in
     let the-enum-told = c .before .before .before .before .enum-told in
+    let the-check-starts = c .before .before .before .check-starts in
     goes-on (_ ∷ []) _ (the-enum-told .given .1) (judged-alone (the-check-sizes .ensures))
-    (goes-on (_ ∷ []) _ (c .before .enum-told3 .given .1) (judged-alone (c .before .before .before .check-starts .ensures)) (judged-alone (c .check-arcs .ensures)))
+    (goes-on (_ ∷ []) _ (c .before .enum-told3 .given .1) (judged-alone (the-check-starts .ensures)) (judged-alone (c .check-arcs .ensures)))
 
 pub check-graph-spec : {M : Type 1} → statement M
 check-graph-spec =

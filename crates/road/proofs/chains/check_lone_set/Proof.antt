@@ -20,7 +20,9 @@ check-set-requires : tie.Need-check-set-requires
 check-set-requires c κs = search needs
 
 returns-2 : tie.Need-returns-2
-returns-2 c = goes-on (_ ∷ []) _ (c .before .enum-told .given .1) (judged-alone (c .before .before .before .check-set-size .ensures)) (judged-alone (c .check-set .ensures))
+returns-2 c =
+    let the-check-set-size = c .before .before .before .check-set-size in
+    goes-on (_ ∷ []) _ (c .before .enum-told .given .1) (judged-alone (the-check-set-size .ensures)) (judged-alone (c .check-set .ensures))
 
 pub check-lone-set-spec : {M : Type 1} → statement M
 check-lone-set-spec =

@@ -18,7 +18,9 @@ enum-told-2 : tie.Need-enum-told-2
 enum-told-2 c = search needs
 
 returns : tie.Need-returns
-returns c = stops (graphFaults roadLimits _ _ _) _ (c .enum-told2 .given .1) (rw (c .before .before .before .road-limits .ensures) at (c .before .before .check-graph .ensures))
+returns c =
+    let the-road-limits = c .before .before .before .road-limits in
+    stops (graphFaults roadLimits _ _ _) _ (c .enum-told2 .given .1) (rw (the-road-limits .ensures) at (c .before .before .check-graph .ensures))
 
 node-count-requires : tie.Need-node-count-requires
 node-count-requires c κs = search needs

@@ -1,10 +1,10 @@
 use Rattle.road.proofs.Refusals.{judged-refused, refuses, passes}
 use Rattle.road.proofs.Drives.{entered-none, drive-clear}
 use Rattle.road.specs.Drives.{none, many}
-use Rattle.road.specs.Drives.{Entered}
+use Rattle.road.specs.workings.Scans.{Entered}
 use native.Mathlib.Omega.{arith}
-use lib.ListN.{length, getD}
-use Prim.Native.Nat.{ℕ, suc, _+_, _-_, _≤_, _<_}
+use lib.ListN.{length}
+use Prim.Native.Nat.{_-_}
 use borrow.Author.Needs.{needs}
 use Rattle.road.proofs.drive.check_drive.Statement.{statement}
 use Rattle.road.proofs.drive.check_drive.Tie as tie
@@ -46,7 +46,9 @@ loop-again : tie.Need-loop-again Inv-loop μ-loop
 loop-again c = rw (c .enum-told .given .1) at (c .before .before .check-position .ensures)
 
 returns-4 : tie.Need-returns-4 Inv-loop μ-loop
-returns-4 c = passes (drive-clear _ _ _ (c .before .before .before .if1 .left) (omega arith) _ (c .loop-test .left) (c .before .loop .inv))
+returns-4 c =
+    let the-if1 = c .before .before .before .if1 in
+    passes (drive-clear _ _ _ (the-if1 .left) (omega arith) _ (c .loop-test .left) (c .before .loop .inv))
 
 pub check-drive-spec : {M : Type 1} → statement M
 check-drive-spec =

@@ -20,7 +20,9 @@ wide-requires : tie.Need-wide-requires
 wide-requires c κs = search needs
 
 returns : tie.Need-returns
-returns c = told (outside _ (c .before .before .before .before .before .before .pre .1 .0) (omega arith))
+returns c =
+    let start = c .before .before .before .before .before .before in
+    told (outside _ (start .pre .1 .0) (omega arith))
 
 returns-2 : tie.Need-returns-2
 returns-2 c = entered-first _ _ _ _ (c .if2 .taken) (omega arith)
@@ -46,19 +48,22 @@ shared-slice-read-joined c = search needs
 joined-requires : tie.Need-joined-requires
 joined-requires c κs =
     let start = c .before .before .before .before .before .before .before .before .before .before in
-    (start .pre .0, omega (arith, start .pre .1 .1 .inside (start .args .i - 1) (omega (arith, c .before .before .before .if2 .left))))
+    let the-if2 = c .before .before .before .if2 in
+    (start .pre .0, omega (arith, start .pre .1 .1 .inside (start .args .i - 1) (omega (arith, the-if2 .left))))
 
 returns-3 : tie.Need-returns-3
 returns-3 c =
     let start = c .before .before .before .before .before .before .before .before .before .before .before .before in
     let the-if2 = c .before .before .before .before .before .if2 in
-    entered-more _ _ _ _ (the-if2 .left) (start .pre .1 .1) (omega arith) (rw (c .before .before .before .wide2 .ensures) at (c .before .joined .ensures .yes (c .if3 .taken)))
+    let the-wide2 = c .before .before .before .wide2 in
+    entered-more _ _ _ _ (the-if2 .left) (start .pre .1 .1) (omega arith) (rw (the-wide2 .ensures) at (c .before .joined .ensures .yes (c .if3 .taken)))
 
 returns-4 : tie.Need-returns-4
 returns-4 c =
     let start = c .before .before .before .before .before .before .before .before .before .before .before .before in
     let the-if2 = c .before .before .before .before .before .if2 in
-    told (apart-at _ _ _ _ (the-if2 .left) (start .pre .1 .0) (rw (c .before .before .before .wide2 .ensures) at (c .before .joined .ensures .no (c .if3 .left))))
+    let the-wide2 = c .before .before .before .wide2 in
+    told (apart-at _ _ _ _ (the-if2 .left) (start .pre .1 .0) (rw (the-wide2 .ensures) at (c .before .joined .ensures .no (c .if3 .left))))
 
 pub check-position-spec : {M : Type 1} → statement M
 check-position-spec =

@@ -1,7 +1,7 @@
 use Rattle.road.proofs.Drives.{Between, between-all, between-left, between-right, between-none, middle-joined, middle-listed}
 use Rattle.road.proofs.Refusals.{tells-yes, tells-no}
 use native.Mathlib.Omega.{arith}
-use Prim.Native.Nat.{ℕ, suc, _+_, _-_, _≤_, _<_}
+use Prim.Native.Nat.{_-_}
 use borrow.Author.Needs.{needs, scaled-fits}
 use Rattle.road.proofs.drive.joined.Statement.{statement}
 use Rattle.road.proofs.drive.joined.Tie as tie
@@ -12,29 +12,13 @@ Inv-loop starts heads u v low₀ high₀ low high = Between starts heads u v low
 abbrev μ-loop : tie.MeasureT-loop
 μ-loop starts heads u v low₀ high₀ low high = high - low
 
-mul-wide : tie.Need-mul-wide Inv-loop μ-loop
-mul-wide c = search needs
-
-shared-slice-read-wide : tie.Need-shared-slice-read-wide Inv-loop μ-loop
-shared-slice-read-wide c = search needs
-
-wide-requires : tie.Need-wide-requires Inv-loop μ-loop
-wide-requires c κs = search needs
-
-add-wide : tie.Need-add-wide Inv-loop μ-loop
-add-wide c = search needs
-
-mul-wide-2 : tie.Need-mul-wide-2 Inv-loop μ-loop
-mul-wide-2 c = search needs
-
-shared-slice-read-wide-2 : tie.Need-shared-slice-read-wide-2 Inv-loop μ-loop
-shared-slice-read-wide-2 c = search needs
-
-wide-requires-2 : tie.Need-wide-requires-2 Inv-loop μ-loop
-wide-requires-2 c κs = search needs
+row-requires : tie.Need-row-requires Inv-loop μ-loop
+row-requires c κs = search needs
 
 loop-holds : tie.Need-loop-holds Inv-loop μ-loop
-loop-holds c = rw (c .wide2 .ensures, c .before .before .wide .ensures) (between-all _ _ (c .before .before .before .before .before .before .pre .0) _ _)
+loop-holds c =
+    let start = c .before .before .before in
+    rw (c .row .ensures .end, c .row .ensures .first) (between-all _ _ (start .pre .0) _ _)
 
 sub-middle : tie.Need-sub-middle Inv-loop μ-loop
 sub-middle c = search needs
@@ -43,20 +27,30 @@ add-middle : tie.Need-add-middle Inv-loop μ-loop
 add-middle c = search needs
 
 mul-if1 : tie.Need-mul-if1 Inv-loop μ-loop
-mul-if1 c = scaled-fits _ _ 4 (middle-listed _ _ (c .before .before .before .before .before .before .before .before .pre .0) _ _ _ _ _ (c .before .loop .inv) (omega arith) (omega arith)) (search needs)
+mul-if1 c =
+    let start = c .before .before .before .before .before in
+    scaled-fits _ _ 4 (middle-listed _ _ (start .pre .0) _ _ _ _ _ (c .before .loop .inv) (omega arith) (omega arith)) (search needs)
 
 shared-slice-read-if1 : tie.Need-shared-slice-read-if1 Inv-loop μ-loop
-shared-slice-read-if1 c = middle-listed _ _ (c .before .before .before .before .before .before .before .before .before .pre .0) _ _ _ _ _ (c .before .before .loop .inv) (omega arith) (omega arith)
+shared-slice-read-if1 c =
+    let start = c .before .before .before .before .before .before in
+    middle-listed _ _ (start .pre .0) _ _ _ _ _ (c .before .before .loop .inv) (omega arith) (omega arith)
 
 returns : tie.Need-returns Inv-loop μ-loop
-returns c = tells-yes (middle-joined _ _ (c .before .before .before .before .before .before .before .before .before .before .pre .0) _ _ _ _ _ (c .before .before .before .loop .inv) (omega arith) (omega arith) (c .if1 .taken))
+returns c =
+    let start = c .before .before .before .before .before .before .before in
+    let the-loop = c .before .before .before .loop in
+    tells-yes (middle-joined _ _ (start .pre .0) _ _ _ _ _ (the-loop .inv) (omega arith) (omega arith) (c .if1 .taken))
 
 mul-if2 : tie.Need-mul-if2 Inv-loop μ-loop
-mul-if2 c = scaled-fits _ _ 4 (middle-listed _ _ (c .before .before .before .before .before .before .before .before .before .before .pre .0) _ _ _ _ _ (c .before .before .before .loop .inv) (omega arith) (omega arith)) (search needs)
+mul-if2 c =
+    let start = c .before .before .before .before .before .before .before in
+    let the-loop = c .before .before .before .loop in
+    scaled-fits _ _ 4 (middle-listed _ _ (start .pre .0) _ _ _ _ _ (the-loop .inv) (omega arith) (omega arith)) (search needs)
 
 shared-slice-read-if2 : tie.Need-shared-slice-read-if2 Inv-loop μ-loop
 shared-slice-read-if2 c =
-    let start = c .before .before .before .before .before .before .before .before .before .before .before in
+    let start = c .before .before .before .before .before .before .before .before in
     let the-loop = c .before .before .before .before .loop in
     middle-listed _ _ (start .pre .0) _ _ _ _ _ (the-loop .inv) (omega arith) (omega arith)
 
@@ -68,7 +62,7 @@ loop-less c = search needs
 
 loop-again : tie.Need-loop-again Inv-loop μ-loop
 loop-again c =
-    let start = c .before .before .before .before .before .before .before .before .before .before .before .before in
+    let start = c .before .before .before .before .before .before .before .before .before in
     let the-loop = c .before .before .before .before .before .loop in
     between-right _ _ (start .pre .0) _ _ _ _ _ (the-loop .inv) (omega arith) (omega arith) (c .if2 .taken)
 
@@ -77,12 +71,14 @@ loop-less-2 c = search needs
 
 loop-again-2 : tie.Need-loop-again-2 Inv-loop μ-loop
 loop-again-2 c =
-    let start = c .before .before .before .before .before .before .before .before .before .before .before .before in
+    let start = c .before .before .before .before .before .before .before .before .before in
     let the-loop = c .before .before .before .before .before .loop in
     between-left _ _ (start .pre .0) _ _ _ _ _ (the-loop .inv) (omega arith) (omega arith) (omega (arith, c .before .before .if1 .left))
 
 returns-2 : tie.Need-returns-2 Inv-loop μ-loop
-returns-2 c = tells-no (between-none _ _ (c .before .before .before .before .before .before .before .before .pre .0) _ _ _ _ (c .before .loop .inv) (c .loop-test .left))
+returns-2 c =
+    let start = c .before .before .before .before .before in
+    tells-no (between-none _ _ (start .pre .0) _ _ _ _ (c .before .loop .inv) (c .loop-test .left))
 
 pub joined-spec : {M : Type 1} → statement M
 joined-spec =
@@ -90,13 +86,7 @@ joined-spec =
     (tie.spec
     Inv-loop
     μ-loop
-    mul-wide
-    shared-slice-read-wide
-    wide-requires
-    add-wide
-    mul-wide-2
-    shared-slice-read-wide-2
-    wide-requires-2
+    row-requires
     loop-holds
     sub-middle
     add-middle

@@ -1,8 +1,8 @@
 use Rattle.road.proofs.Refusals.{refuses, passes}
 use Rattle.road.proofs.Orders.{Marked, mark-none, mark-more, repeats, no-node, other-length, permutes}
 use native.Mathlib.Omega.{arith}
-use lib.ListN.{length, getD}
-use Prim.Native.Nat.{ℕ, suc, _+_, _-_, _≤_, _<_}
+use lib.ListN.{length}
+use Prim.Native.Nat.{_-_}
 use borrow.Author.Needs.{needs}
 use Rattle.road.proofs.order.check_order.Statement.{statement}
 use Rattle.road.proofs.order.check_order.Tie as tie
@@ -29,7 +29,9 @@ wide-requires : tie.Need-wide-requires Inv-loop μ-loop
 wide-requires c κs = search needs
 
 returns-2 : tie.Need-returns-2 Inv-loop μ-loop
-returns-2 c = refuses (no-node _ _ _ (c .before .before .before .before .loop-test .taken) (omega arith))
+returns-2 c =
+    let the-loop-test = c .before .before .before .before .loop-test in
+    refuses (no-node _ _ _ (the-loop-test .taken) (omega arith))
 
 array-read-if3 : tie.Need-array-read-if3 Inv-loop μ-loop
 array-read-if3 c = search needs
@@ -38,7 +40,8 @@ returns-3 : tie.Need-returns-3 Inv-loop μ-loop
 returns-3 c =
     let the-loop = c .before .before .before .before .before .before .loop in
     let the-loop-test = c .before .before .before .before .before .loop-test in
-    refuses (repeats _ _ _ _ (the-loop .inv) (the-loop-test .taken) (rw (c .before .before .before .wide .ensures) at (c .if3 .taken)))
+    let the-wide = c .before .before .before .wide in
+    refuses (repeats _ _ _ _ (the-loop .inv) (the-loop-test .taken) (rw (the-wide .ensures) at (c .if3 .taken)))
 
 array-write-seen : tie.Need-array-write-seen Inv-loop μ-loop
 array-write-seen c = search needs
@@ -54,7 +57,8 @@ loop-again c =
     let start = c .before .before .before .before .before .before .before .before .before .before in
     let the-loop = c .before .before .before .before .before .before .loop in
     let the-loop-test = c .before .before .before .before .before .loop-test in
-    rw (c .before .before .before .wide .ensures) (mark-more _ _ _ _ (the-loop .inv) (omega arith) (start .pre) (the-loop-test .taken) (rw (c .before .before .before .wide .ensures) at (c .if3 .left)))
+    let the-wide = c .before .before .before .wide in
+    rw (the-wide .ensures) (mark-more _ _ _ _ (the-loop .inv) (omega arith) (start .pre) (the-loop-test .taken) (rw (the-wide .ensures) at (c .if3 .left)))
 
 returns-4 : tie.Need-returns-4 Inv-loop μ-loop
 returns-4 c = passes (λ f. f (permutes _ _ _ _ (c .before .loop .inv) (c .loop-test .left) (c .before .before .if1 .left)))

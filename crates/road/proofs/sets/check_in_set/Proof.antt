@@ -24,7 +24,10 @@ returns-2 : tie.Need-returns-2
 returns-2 c = refuses (to (λ h. c .if2 .taken (rw (c .before .before .wide2 .ensures) h)))
 
 returns-3 : tie.Need-returns-3
-returns-3 c = passes (in-set-clear _ _ _ (rw (c .before .before .before .before .before .wide .ensures) at (c .before .before .before .if1 .left)) (rw (c .before .before .wide2 .ensures) at (c .if2 .left)))
+returns-3 c =
+    let the-wide = c .before .before .before .before .before .wide in
+    let the-if1 = c .before .before .before .if1 in
+    passes (in-set-clear _ _ _ (rw (the-wide .ensures) at (the-if1 .left)) (rw (c .before .before .wide2 .ensures) at (c .if2 .left)))
 
 pub check-in-set-spec : {M : Type 1} → statement M
 check-in-set-spec =

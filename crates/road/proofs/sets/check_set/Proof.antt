@@ -4,7 +4,7 @@ use Rattle.road.specs.Faults.{unlike, other}
 use borrow.Author.Count.{below-more}
 use native.Mathlib.Omega.{arith}
 use lib.ListN.{length, getD}
-use Prim.Native.Nat.{ℕ, suc, _+_, _-_, _≤_, _<_}
+use Prim.Native.Nat.{ℕ, _-_, _≤_, _<_}
 use borrow.Author.Needs.{needs}
 use Rattle.road.proofs.sets.check_set.Statement.{statement}
 use Rattle.road.proofs.sets.check_set.Tie as tie
@@ -34,7 +34,9 @@ loop-less : tie.Need-loop-less Inv-loop μ-loop
 loop-less c = search needs
 
 loop-again : tie.Need-loop-again Inv-loop μ-loop
-loop-again c = below-more _ _ (c .before .before .before .loop .inv) (c .if2 .left)
+loop-again c =
+    let the-loop = c .before .before .before .loop in
+    below-more _ _ (the-loop .inv) (c .if2 .left)
 
 returns-3 : tie.Need-returns-3 Inv-loop μ-loop
 returns-3 c = passes (set-clear _ _ (c .before .before .if1 .left) (λ x h. c .before .loop .inv x (omega arith)))

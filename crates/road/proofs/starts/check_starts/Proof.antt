@@ -2,10 +2,10 @@ use Rattle.road.proofs.Refusals.{refuses, passes}
 use Rattle.road.proofs.Faults.{starts-clear}
 use Rattle.road.specs.Faults.{first, falls, last}
 use borrow.Author.Count.{below-more}
-use mathlib.Core.Path.{_≡_, refl, sym, ap, subst, _∙_}
+use mathlib.Core.Path.{sym, _∙_}
 use native.Mathlib.Omega.{arith}
 use lib.ListN.{length, getD}
-use Prim.Native.Nat.{ℕ, suc, _+_, _-_, _≤_, _<_}
+use Prim.Native.Nat.{ℕ, _+_, _-_, _≤_, _<_}
 use borrow.Author.Needs.{needs}
 use Rattle.road.proofs.starts.check_starts.Statement.{statement}
 use Rattle.road.proofs.starts.check_starts.Tie as tie
@@ -53,7 +53,9 @@ loop-less : tie.Need-loop-less Inv-loop μ-loop
 loop-less c = search needs
 
 loop-again : tie.Need-loop-again Inv-loop μ-loop
-loop-again c = (omega arith, below-more _ _ (c .before .before .before .before .loop .inv .1) (c .if2 .left))
+loop-again c =
+    let the-loop = c .before .before .before .before .loop in
+    (omega arith, below-more _ _ (the-loop .inv .1) (c .if2 .left))
 
 sub-wide : tie.Need-sub-wide Inv-loop μ-loop
 sub-wide c = search needs

@@ -1,4 +1,4 @@
-use Rattle.road.proofs.Zeros.{Spread, spread-none, spread-more, spread-all}
+use Rattle.road.proofs.Filled.{Filling, filling-none, filling-more, filling-all}
 use lib.ListN.{length}
 use native.Mathlib.Omega.{arith}
 use Prim.Native.Nat.{_-_}
@@ -7,13 +7,13 @@ use Rattle.search.proofs.labels.clear_labels.Statement.{statement}
 use Rattle.search.proofs.labels.clear_labels.Tie as tie
 
 abbrev Inv-loop : tie.InvT-loop
-Inv-loop s₀ i₀ s i = Spread 0 s₀ s i
+Inv-loop s₀ i₀ s i = Filling 0 s₀ s i
 
 abbrev μ-loop : tie.MeasureT-loop
 μ-loop s₀ i₀ s i = length s₀ - i
 
 loop-holds : tie.Need-loop-holds Inv-loop μ-loop
-loop-holds c = spread-none _ _
+loop-holds c = filling-none _ _
 
 mul-s : tie.Need-mul-s Inv-loop μ-loop
 mul-s c = search needs
@@ -28,13 +28,13 @@ loop-less : tie.Need-loop-less Inv-loop μ-loop
 loop-less c = omega arith
 
 loop-again : tie.Need-loop-again Inv-loop μ-loop
-loop-again c = spread-more _ _ _ _ (c .before .loop .inv) (c .loop-test .taken)
+loop-again c = filling-more _ _ _ _ (c .before .loop .inv) (c .loop-test .taken)
 
 same-length : tie.Need-same-length Inv-loop μ-loop
 same-length c = c .before .loop .inv .long
 
 returns : tie.Need-returns Inv-loop μ-loop
-returns c = spread-all _ _ _ _ (c .before .loop .inv) (c .loop-test .left)
+returns c = filling-all _ _ _ _ (c .before .loop .inv) (c .loop-test .left)
 
 pub clear-labels-spec : {M : Type 1} → statement M
 clear-labels-spec =

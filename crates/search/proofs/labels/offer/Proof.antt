@@ -1,10 +1,10 @@
 use Rattle.search.proofs.Heaps.{held-place, not-sooner}
-use Rattle.search.specs.States.{refused, taken}
-use lib.ListN.{length, length-set}
+use Rattle.search.specs.workings.States.{refused, taken}
+use lib.ListN.{length-set}
 use mathlib.Core.Logic.{inr}
-use mathlib.Core.Path.{_≡_, refl, sym, ap, subst, _∙_}
+use mathlib.Core.Path.{refl, sym, _∙_}
 use native.Mathlib.Omega.{arith}
-use Prim.Native.Nat.{ℕ, suc, _+_, _-_, _≤_, _<_}
+use Prim.Native.Nat.{_-_}
 use borrow.Author.Needs.{needs}
 use Rattle.search.proofs.labels.offer.Statement.{statement}
 use Rattle.search.proofs.labels.offer.Tie as tie
@@ -37,7 +37,8 @@ add-requires : tie.Need-add-requires
 add-requires c κs =
     let start = c .before .before .before .before .before .before .before .before .before .before .before .before in
     let the-wide = c .before .before .before .before .wide in
-    (start .pre .0, (simp length-set (start .pre .1 .0), (start .pre .1 .1, sym (the-wide .ensures) ∙ c .before .before .before .if2 .taken)))
+    let the-if2 = c .before .before .before .if2 in
+    (start .pre .0, (simp length-set (start .pre .1 .0), (start .pre .1 .1, sym (the-wide .ensures) ∙ the-if2 .taken)))
 
 add-result : tie.Need-add-result
 add-result c = search needs
@@ -65,7 +66,8 @@ up-requires : tie.Need-up-requires
 up-requires c κs =
     let start = c .before .before .before .before .before .before .before .before .before .before .before .before in
     let the-wide = c .before .before .before .before .wide in
-    (start .pre .0, (simp length-set (start .pre .1 .0), held-place _ _ _ (start .pre .0) _ _ (the-wide .ensures) (c .before .before .before .if2 .left)))
+    let the-if2 = c .before .before .before .if2 in
+    (start .pre .0, (simp length-set (start .pre .1 .0), held-place _ _ _ (start .pre .0) _ _ (the-wide .ensures) (the-if2 .left)))
 
 same-length-4 : tie.Need-same-length-4
 same-length-4 c = search needs

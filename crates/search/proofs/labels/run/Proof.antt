@@ -1,41 +1,40 @@
 use Rattle.search.proofs.States.{Running, running-none, running-on, going-at}
-use Rattle.search.specs.States.{mass}
+use Rattle.search.specs.workings.States.{mass}
 use native.Mathlib.Omega.{arith}
 use Prim.Native.Nat.{_+_}
 use Rattle.search.proofs.labels.run.Statement.{statement}
 use Rattle.search.proofs.labels.run.Tie as tie
 
 abbrev Inv-loop : tie.InvT-loop
-Inv-loop starts heads weights blocked source heap₀ places₀ labels₀ waiting count₀ taken₀ heap places labels count taken =
-    Running starts heads weights blocked source labels₀ heap₀ places₀ labels heap places count taken
+Inv-loop starts heads weights blocked source heap₀ places₀ labels₀ waiting count₀ heap places labels count =
+    Running starts heads weights blocked source labels₀ heap₀ places₀ labels heap places count
 
 abbrev μ-loop : tie.MeasureT-loop
-μ-loop starts heads weights blocked source heap₀ places₀ labels₀ waiting count₀ taken₀ heap places labels count taken =
+μ-loop starts heads weights blocked source heap₀ places₀ labels₀ waiting count₀ heap places labels count =
     mass labels + count
 
 loop-holds : tie.Need-loop-holds Inv-loop μ-loop
-loop-holds c = running-none _ _ _ _ _ _ _ _ _ (c .before .before .before .before .before .before .before .pre .0)
+loop-holds c =
+    let start = c .before .before .before .before .before .before .before in
+    running-none _ _ _ _ _ _ _ _ _ (start .pre .0)
 
 take-one-requires : tie.Need-take-one-requires Inv-loop μ-loop
 take-one-requires c κs =
     let start = c .before .before .before .before .before .before .before .before .before .before .before .before in
     let the-loop = c .before .before .before .before .loop in
-    (the-loop .inv .going, (start .pre .1, omega (arith, c .before .before .before .loop-test .taken)))
-
-add-taken : tie.Need-add-taken Inv-loop μ-loop
-add-taken c =
-    let the-loop = c .before .before .before .before .before .before .before .before .before .before .before .loop in
-    let the-take-one = c .before .before .before .before .before .before .take-one in
-    omega (arith, the-loop .inv .spent, the-take-one .ensures .1)
+    let the-loop-test = c .before .before .before .loop-test in
+    (the-loop .inv .going, (start .pre .1, omega (arith, the-loop-test .taken)))
 
 loop-less : tie.Need-loop-less Inv-loop μ-loop
-loop-less c = c .before .before .before .before .before .before .take-one .ensures .1
+loop-less c =
+    let the-take-one = c .before .before .before .before .before .before .take-one in
+    the-take-one .ensures .1
 
 loop-again : tie.Need-loop-again Inv-loop μ-loop
 loop-again c =
     let the-loop = c .before .before .before .before .before .before .before .before .before .before .before .loop in
     let the-take-one = c .before .before .before .before .before .before .take-one in
-    running-on _ _ _ _ _ _ _ _ _ _ _ _ _ (the-loop .inv) _ _ _ _ (the-take-one .ensures .0) (the-take-one .ensures .1) (the-take-one .kept .1 .1 .1 .1 .1 .1 .1 .0) (the-take-one .kept .1 .1 .1 .1 .1 .0) (the-take-one .kept .1 .1 .1 .1 .1 .1 .0)
+    running-on _ _ _ _ _ _ _ _ _ _ _ _ (the-loop .inv) _ _ _ _ (the-take-one .ensures .0) (the-take-one .kept .1 .1 .1 .1 .1 .1 .1 .0) (the-take-one .kept .1 .1 .1 .1 .1 .0) (the-take-one .kept .1 .1 .1 .1 .1 .1 .0)
 
 same-length : tie.Need-same-length Inv-loop μ-loop
 same-length c = c .before .loop .inv .heap-long
@@ -57,7 +56,6 @@ run-spec =
     μ-loop
     loop-holds
     take-one-requires
-    add-taken
     loop-less
     loop-again
     same-length

@@ -1,8 +1,8 @@
 use Rattle.search.proofs.States.{going-taken, leaves-taken, node-taken, going-shut}
 use mathlib.Core.Logic.{inl, inr, ⊎-elim}
-use mathlib.Core.Path.{_≡_, refl, sym, ap, subst, _∙_}
+use mathlib.Core.Path.{_∙_}
 use native.Mathlib.Omega.{arith}
-use Prim.Native.Nat.{ℕ, suc, _+_, _-_, _≤_, _<_}
+use Prim.Native.Nat.{_-_}
 use borrow.Author.Needs.{needs}
 use Rattle.search.proofs.labels.take_one.Statement.{statement}
 use Rattle.search.proofs.labels.take_one.Tie as tie
@@ -19,7 +19,8 @@ relax-requires : tie.Need-relax-requires
 relax-requires c κs =
     let start = c .before .before .before .before .before .before .before .before .before .before .before .before .before .before .before .before .before .before .before in
     let the-take = c .before .before .before .before .before .before .before .before .take in
-    (going-taken _ _ _ _ _ _ _ _ _ (start .pre .0) _ _ _ (the-take .ensures .0) (the-take .ensures .1), (leaves-taken _ _ _ _ _ _ _ _ _ (start .pre .0) _ _ _ (the-take .ensures .0) (the-take .ensures .1) (inl (c .before .before .before .if1 .taken)), node-taken _ _ _ _ _ _ _ _ _ (start .pre .0) _ _ _ (the-take .ensures .0) (the-take .ensures .1)))
+    let the-if1 = c .before .before .before .if1 in
+    (going-taken _ _ _ _ _ _ _ _ _ (start .pre .0) _ _ _ (the-take .ensures .0) (the-take .ensures .1), (leaves-taken _ _ _ _ _ _ _ _ _ (start .pre .0) _ _ _ (the-take .ensures .0) (the-take .ensures .1) (inl (the-if1 .taken)), node-taken _ _ _ _ _ _ _ _ _ (start .pre .0) _ _ _ (the-take .ensures .0) (the-take .ensures .1)))
 
 same-length : tie.Need-same-length
 same-length c =
@@ -34,7 +35,9 @@ same-length-2 c =
     the-relax .kept .1 .1 .1 .1 .1 .1 .1 .0 ∙ the-take .kept .1 .0
 
 same-length-3 : tie.Need-same-length-3
-same-length-3 c = c .before .before .before .before .before .before .relax .kept .1 .1 .1 .1 .1 .1 .1 .1 .0
+same-length-3 c =
+    let the-relax = c .before .before .before .before .before .before .relax in
+    the-relax .kept .1 .1 .1 .1 .1 .1 .1 .1 .0
 
 returns : tie.Need-returns
 returns c =
@@ -55,7 +58,8 @@ relax-requires-2 : tie.Need-relax-requires-2
 relax-requires-2 c κs =
     let start = c .before .before .before .before .before .before .before .before .before .before .before .before .before .before .before .before .before .before .before .before .before in
     let the-take = c .before .before .before .before .before .before .before .before .before .before .take in
-    (going-taken _ _ _ _ _ _ _ _ _ (start .pre .0) _ _ _ (the-take .ensures .0) (the-take .ensures .1), (leaves-taken _ _ _ _ _ _ _ _ _ (start .pre .0) _ _ _ (the-take .ensures .0) (the-take .ensures .1) (inr (omega (arith, c .before .before .before .if2 .taken))), node-taken _ _ _ _ _ _ _ _ _ (start .pre .0) _ _ _ (the-take .ensures .0) (the-take .ensures .1)))
+    let the-if2 = c .before .before .before .if2 in
+    (going-taken _ _ _ _ _ _ _ _ _ (start .pre .0) _ _ _ (the-take .ensures .0) (the-take .ensures .1), (leaves-taken _ _ _ _ _ _ _ _ _ (start .pre .0) _ _ _ (the-take .ensures .0) (the-take .ensures .1) (inr (omega (arith, the-if2 .taken))), node-taken _ _ _ _ _ _ _ _ _ (start .pre .0) _ _ _ (the-take .ensures .0) (the-take .ensures .1)))
 
 same-length-4 : tie.Need-same-length-4
 same-length-4 c =
@@ -70,7 +74,9 @@ same-length-5 c =
     the-relax2 .kept .1 .1 .1 .1 .1 .1 .1 .0 ∙ the-take .kept .1 .0
 
 same-length-6 : tie.Need-same-length-6
-same-length-6 c = c .before .before .before .before .before .before .relax2 .kept .1 .1 .1 .1 .1 .1 .1 .1 .0
+same-length-6 c =
+    let the-relax2 = c .before .before .before .before .before .before .relax2 in
+    the-relax2 .kept .1 .1 .1 .1 .1 .1 .1 .1 .0
 
 returns-2 : tie.Need-returns-2
 returns-2 c =
@@ -82,10 +88,14 @@ sub-result : tie.Need-sub-result
 sub-result c = search needs
 
 same-length-7 : tie.Need-same-length-7
-same-length-7 c = c .before .before .before .before .before .before .before .take .kept .0
+same-length-7 c =
+    let the-take = c .before .before .before .before .before .before .before .take in
+    the-take .kept .0
 
 same-length-8 : tie.Need-same-length-8
-same-length-8 c = c .before .before .before .before .before .before .before .take .kept .1 .0
+same-length-8 c =
+    let the-take = c .before .before .before .before .before .before .before .take in
+    the-take .kept .1 .0
 
 same-length-9 : tie.Need-same-length-9
 same-length-9 c = search needs

@@ -2,7 +2,7 @@ use Rattle.trails.proofs.Trails.{met, not-met, others-more}
 use Rattle.road.proofs.Refusals.{tells-yes, tells-no}
 use lib.ListN.{getD, length-map}
 use native.Mathlib.Omega.{arith}
-use Prim.Native.Nat.{ℕ, suc, _+_, _-_, _≤_, _<_}
+use Prim.Native.Nat.{ℕ, _-_, _≤_, _<_}
 use mathlib.Core.Logic.{_≢_}
 use borrow.Author.Needs.{needs}
 use Rattle.trails.proofs.Trail.has.Statement.{statement}
@@ -35,10 +35,15 @@ loop-less : tie.Need-loop-less Inv-loop μ-loop
 loop-less c = search needs
 
 loop-again : tie.Need-loop-again Inv-loop μ-loop
-loop-again c = (omega arith, others-more (c .before .before .before .before .args .self .nodes) _ _ _ (c .before .loop-test .taken) (c .before .before .loop .inv .1) (c .if1 .left))
+loop-again c =
+    let start = c .before .before .before .before in
+    (omega arith, others-more (start .args .self .nodes) _ _ _ (c .before .loop-test .taken) (c .before .before .loop .inv .1) (c .if1 .left))
 
 returns-2 : tie.Need-returns-2 Inv-loop μ-loop
-returns-2 c = tells-no (not-met _ _ _ (simp length-map at (c .before .before .before .good .0 .1 .1 .0 .1 .0 .1)) (c .before .before .before .pre) (λ j h. c .before .loop .inv .1 j (omega arith)))
+returns-2 c =
+    let the-good = c .before .before .before .good in
+    let start = c .before .before .before in
+    tells-no (not-met _ _ _ (simp length-map at (the-good .0 .1 .1 .0 .1 .0 .1)) (start .pre) (λ j h. c .before .loop .inv .1 j (omega arith)))
 
 pub has-spec : {M : Type 1} → statement M
 has-spec =

@@ -19,7 +19,9 @@ returns-2 : tie.Need-returns-2
 returns-2 c = tells-no (λ f. f .new (c .before .has .ensures .yes (c .if2 .taken)))
 
 returns-3 : tie.Need-returns-3
-returns-3 c = tells-yes (record { dropped = rw (c .before .before .before .before .wide .ensures) at (c .before .before .if1 .left); new = c .before .has .ensures .no (c .if2 .left) })
+returns-3 c =
+    let the-wide = c .before .before .before .before .wide in
+    tells-yes (record { dropped = rw (the-wide .ensures) at (c .before .before .if1 .left); new = c .before .has .ensures .no (c .if2 .left) })
 
 pub is-free-spec : {M : Type 1} → statement M
 is-free-spec =

@@ -1,0 +1,2 @@
+-- What serves the proofs alone: no public contract cites it.
+pub mod Taking
