@@ -63,9 +63,9 @@ module _ (G O : Graph) (chosen : List ℕ) (x : Over G O chosen) (s t : ℕ) (no
             lighter = omega (arith, z .2);
           }
       outside-by o (inr f) =
-          let y = over-path G O chosen x (f .to) i (f .member) n in
-          let z : (d : ℕ) × Reaches G (Outside chosen) (f .node) t d × (d ≤ f .past) =
-          path-within (end-node (x .proper) n (f .to)) (record { after = f .back; along = f .from; inner = each-inside (Outside chosen) (f .back) (f .rest) })
+          let y = over-path G O chosen x (f .parts .to) i (f .member) n in
+          let z : (d : ℕ) × Reaches G (Outside chosen) (f .node) t d × (d ≤ f .parts .past) =
+          path-within (end-node (x .proper) n (f .parts .to)) (record { after = f .parts .back; along = f .parts .from; inner = each-inside (Outside chosen) (f .parts .back) (f .rest) })
           in
           record {
             exit = f .node;
@@ -73,7 +73,7 @@ module _ (G O : Graph) (chosen : List ℕ) (x : Over G O chosen) (s t : ℕ) (no
             last = z .0;
             path = y .1;
             out = WayOut.reached o (f .member) (lone-out chosen o (z .1));
-            lighter = omega (arith, y .2, z .2, f .weight);
+            lighter = omega (arith, y .2, z .2, f .parts .weight);
           }
 
       by : InSet chosen t ⊎ Outside chosen t → Leaves a p
@@ -89,13 +89,13 @@ module _ (G O : Graph) (chosen : List ℕ) (x : Over G O chosen) (s t : ℕ) (no
       entered : (d : ℕ) (r : Reaches G Any s t d) → Outside chosen s → Each (Outside chosen) (r .after) ⊎ FirstSet G chosen s (r .after) t d → (e : ℕ) × AnyPair G O chosen s t e × (e ≤ d)
       entered d r o (inl e) = (d, direct (record { after = r .after; path = r .path; inner = each-inside (Outside chosen) (r .after) e }), omega arith)
       entered d r o (inr f) =
-          let z : (k : ℕ) × Reaches G (Outside chosen) s (f .node) k × (k ≤ f .before) =
-          path-within node (record { after = f .front; along = f .to; inner = f .inner })
+          let z : (k : ℕ) × Reaches G (Outside chosen) s (f .node) k × (k ≤ f .parts .before) =
+          path-within node (record { after = f .parts .front; along = f .parts .to; inner = f .inner })
           in
-          let y = leaves (f .member) (end-node (x .proper) node (f .to)) (f .from) in (
+          let y = leaves (f .member) (end-node (x .proper) node (f .parts .to)) (f .parts .from) in (
             z .0 + y .middle + y .last,
             over (f .node) (y .exit) (z .0) (y .middle) (y .last) (WayIn.reached o (f .member) (lone-in chosen o (z .1))) (y .path) (y .out) refl,
-            omega (arith, z .2, y .lighter, f .weight),
+            omega (arith, z .2, y .lighter, f .parts .weight),
           )
 
       by : (d : ℕ) → Reaches G Any s t d → InSet chosen s ⊎ Outside chosen s → (e : ℕ) × AnyPair G O chosen s t e × (e ≤ d)

@@ -4,7 +4,7 @@
 --   Over                an overlay over the road: its steps are the definition's arcs, and all of them
 --   over-road           under each path of the overlay there is one of the road
 --   road-over           under each path of the road between nodes of the set there is one of the overlay
-use mathlib.Core.Path.{_≡_, sym, subst}
+use mathlib.Core.Path.{_≡_, refl, sym, subst}
 use mathlib.Core.Logic.{_⊎_, inl, inr, _≢_}
 use mathlib.Core.List.{List, [], _∷_}
 use Prim.Native.Nat.{ℕ, zero, suc, _+_, _≤_, _<_}
@@ -15,7 +15,7 @@ use Rattle.paths.specs.Graphs.{Graph, Proper, Along, stop, step, Reaches, Walks
 use Rattle.paths.specs.Least.{Under}
 use Rattle.paths.specs.Lists.{Each, Inside}
 use Rattle.paths.proofs.Lists.{each-mem, inside-cons, any-inside}
-use Rattle.paths.proofs.Ways.{walks-joined, walk-of, end-node, end-in, path-within}
+use Rattle.paths.proofs.Ways.{Cut, cut-here, cut-further, walks-joined, walk-of, end-node, end-in, path-within}
 use Rattle.road.specs.Faults.{InSet}
 use Rattle.overlay.specs.Overlays.{Outside, OverlayArc, HasArc}
 use Rattle.overlay.proofs.Locals.{reaches-map}
@@ -30,28 +30,16 @@ in? chosen v = by (ℕ-discrete (getD chosen v 0) 1)
 -- a way cut at the first node of the set behind its beginning
 pub record FirstSet (G : Graph) (chosen : List ℕ) (a : ℕ) (l : List ℕ) (b w : ℕ) : Type 0 where
   pub node : ℕ
-  pub front : List ℕ
-  pub back : List ℕ
-  pub before : ℕ
-  pub past : ℕ
-  pub to : Along G a front node before
-  pub from : Along G node back b past
-  pub weight : w ≡ before + past
-  pub inner : Inside (Outside chosen) front
+  pub parts : Cut G a l b w node
+  pub inner : Inside (Outside chosen) (parts .front)
   pub member : InSet chosen node
-  pub shorter : length back < length l
+  pub shorter : length (parts .back) < length l
 
 -- and at the last
 pub record LastSet (G : Graph) (chosen : List ℕ) (a : ℕ) (l : List ℕ) (b w : ℕ) : Type 0 where
   pub node : ℕ
-  pub front : List ℕ
-  pub back : List ℕ
-  pub before : ℕ
-  pub past : ℕ
-  pub to : Along G a front node before
-  pub from : Along G node back b past
-  pub weight : w ≡ before + past
-  pub rest : Each (Outside chosen) back
+  pub parts : Cut G a l b w node
+  pub rest : Each (Outside chosen) (parts .back)
   pub member : InSet chosen node
 
 module _ {G : Graph} (chosen : List ℕ) where
@@ -60,34 +48,14 @@ module _ {G : Graph} (chosen : List ℕ) where
   first? {a} {b} (step {x = x} {w = w} {d = d} {l = l} s r) = by (in? chosen x) (first? r)
     where
       by : InSet chosen x ⊎ Outside chosen x → Each (Outside chosen) l ⊎ FirstSet G chosen x l b d → Each (Outside chosen) (x ∷ l) ⊎ FirstSet G chosen a (x ∷ l) b (w + d)
-      by (inl i) f =
-          inr
-          (record {
-            node = x;
-            front = x ∷ [];
-            back = l;
-            before = w + 0;
-            past = d;
-            to = step s stop;
-            from = r;
-            weight = omega arith;
-            inner = tt;
-            member = i;
-            shorter = omega arith;
-          })
+      by (inl i) f = inr (record { node = x; parts = cut-further w s (cut-here r refl); inner = tt; member = i; shorter = omega arith })
       by (inr o) (inl e) = inl (o, e)
       by (inr o) (inr f) =
           inr
           (record {
             node = f .node;
-            front = x ∷ f .front;
-            back = f .back;
-            before = w + f .before;
-            past = f .past;
-            to = step s (f .to);
-            from = f .from;
-            weight = omega (arith, f .weight);
-            inner = inside-cons (Outside chosen) x (f .front) o (f .inner);
+            parts = cut-further w s (f .parts);
+            inner = inside-cons (Outside chosen) x (f .parts .front) o (f .inner);
             member = f .member;
             shorter = omega (arith, f .shorter);
           })
@@ -97,23 +65,8 @@ module _ {G : Graph} (chosen : List ℕ) where
   last? {a} {b} (step {x = x} {w = w} {d = d} {l = l} s r) = by (in? chosen x) (last? r)
     where
       by : InSet chosen x ⊎ Outside chosen x → Each (Outside chosen) l ⊎ LastSet G chosen x l b d → Each (Outside chosen) (x ∷ l) ⊎ LastSet G chosen a (x ∷ l) b (w + d)
-      by i (inr f) =
-          inr
-          (record {
-            node = f .node;
-            front = x ∷ f .front;
-            back = f .back;
-            before = w + f .before;
-            past = f .past;
-            to = step s (f .to);
-            from = f .from;
-            weight = omega (arith, f .weight);
-            rest = f .rest;
-            member = f .member;
-          })
-      by (inl i) (inl e) =
-          inr
-          (record { node = x; front = x ∷ []; back = l; before = w + 0; past = d; to = step s stop; from = r; weight = omega arith; rest = e; member = i })
+      by i (inr f) = inr (record { node = f .node; parts = cut-further w s (f .parts); rest = f .rest; member = f .member })
+      by (inl i) (inl e) = inr (record { node = x; parts = cut-further w s (cut-here r refl); rest = e; member = i })
       by (inr o) (inl e) = inl (o, e)
 
 -- an overlay over the road: the same nodes, its steps are overlay arcs, and each pair of the definition has one
@@ -157,15 +110,15 @@ module _ (G O : Graph) (chosen : List ℕ) (x : Over G O chosen) where
           Each (Outside chosen) l ⊎ FirstSet G chosen a l b w →
           ((c v : ℕ) (q : List ℕ) → length q ≤ k → Along G c q b v → InSet chosen c → c < G .nodes → (d : ℕ) × Walks O Any c b d × (d ≤ v)) → (d : ℕ) × Walks O Any a b d × (d ≤ w)
       by (inl e) again = none-behind r e j
-      by (inr f) again = onward (ℕ-discrete a (f .node)) (again (f .node) (f .past) (f .back) (omega (arith, f .shorter)) (f .from) (f .member) (end-node (x .proper) n (f .to)))
+      by (inr f) again = onward (ℕ-discrete a (f .node)) (again (f .node) (f .parts .past) (f .parts .back) (omega (arith, f .shorter)) (f .parts .from) (f .member) (end-node (x .proper) n (f .parts .to)))
         where
-          onward : Dec (a ≡ f .node) → (d : ℕ) × Walks O Any (f .node) b d × (d ≤ f .past) → (d : ℕ) × Walks O Any a b d × (d ≤ w)
-          onward (yes e) z = (z .0, subst (λ (v : ℕ). Walks O Any v b (z .0)) (sym e) (z .1), omega (arith, z .2, f .weight))
+          onward : Dec (a ≡ f .node) → (d : ℕ) × Walks O Any (f .node) b d × (d ≤ f .parts .past) → (d : ℕ) × Walks O Any a b d × (d ≤ w)
+          onward (yes e) z = (z .0, subst (λ (v : ℕ). Walks O Any v b (z .0)) (sym e) (z .1), omega (arith, z .2, f .parts .weight))
           onward (no q) z =
-              let t = short n i (f .member) q (f .to) (f .inner) in (
+              let t = short n i (f .member) q (f .parts .to) (f .inner) in (
                 t .0 + z .0,
                 record { after = f .node ∷ z .1 .after; along = step (t .1) (z .1 .along); inner = any-inside (f .node ∷ z .1 .after) },
-                omega (arith, t .2, z .2, f .weight),
+                omega (arith, t .2, z .2, f .parts .weight),
               )
 
   pub over-path : {a b w : ℕ} {l : List ℕ} → Along G a l b w → InSet chosen a → InSet chosen b → a < G .nodes → (d : ℕ) × Reaches O Any a b d × (d ≤ w)

@@ -63,7 +63,8 @@ module _ {G : Graph} where
   pub walk-of : {P : ℕ → Type 0} {a b w : ℕ} → Reaches G P a b w → Walks G P a b w
   walk-of r = record { after = r .after; along = r .path .along; inner = r .inner }
 
-  cut-here : {a : ℕ} {l : List ℕ} {b w c : ℕ} → Along G a l b w → c ≡ a → Cut G a l b w c
+  -- at its beginning
+  abbrev pub cut-here : {a : ℕ} {l : List ℕ} {b w c : ℕ} → Along G a l b w → c ≡ a → Cut G a l b w c
   cut-here {a} {l} {b} {w} r e =
       record {
         front = [];
@@ -76,7 +77,8 @@ module _ {G : Graph} where
         weight = omega arith;
       }
 
-  cut-further : {a x : ℕ} {l : List ℕ} {b d c : ℕ} (w : ℕ) → G .Step a x w → Cut G x l b d c → Cut G a (x ∷ l) b (w + d) c
+  -- and one step further
+  abbrev pub cut-further : {a x : ℕ} {l : List ℕ} {b d c : ℕ} (w : ℕ) → G .Step a x w → Cut G x l b d c → Cut G a (x ∷ l) b (w + d) c
   cut-further {x = x} w s k =
       record {
         front = x ∷ k .front;
