@@ -1,4 +1,6 @@
 // The cover: pruning, and the call that picks the points.
+#![tactic(auto)]
+
 mod calls;
 mod pruning;
 
@@ -6,7 +8,7 @@ pub use calls::cover;
 use road::{NodeCount, Refusal};
 
 // What the cover call says. `said_of` in specs/ gives each its number and values.
-#[derive(Drop)]
+#[derive(Clone, Copy)]
 pub enum CoverAnswer {
     Covered(NodeCount),
     Refused(Refusal),

@@ -1,5 +1,7 @@
 // Distances: the handheld question over a set and its overlay, and the any-pair question over the
 // road graph too.
+#![tactic(auto)]
+
 mod asking;
 mod calls;
 mod checking;
@@ -10,14 +12,14 @@ pub use calls::{any_pair, handheld};
 use road::Refusal;
 
 // A distance. No way stands apart from every number.
-#[derive(Drop)]
+#[derive(Clone, Copy)]
 pub enum Distance {
     Way(u64),
     NoWay,
 }
 
 // What a question is answered. `said_of` in specs/ gives each its number and values.
-#[derive(Drop)]
+#[derive(Clone, Copy)]
 pub enum DistanceAnswer {
     Way(u64),
     NoWay,

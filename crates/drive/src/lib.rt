@@ -1,4 +1,6 @@
 // Thinned drives: of a drive over the road, the positions that the van sends.
+#![tactic(auto)]
+
 mod calls;
 mod picking;
 
@@ -7,11 +9,11 @@ use road::Refusal;
 
 // A count of a drive's positions. It is neither a count of nodes, since a drive may come back to a
 // node, nor one of arcs.
-#[derive(Drop)]
+#[derive(Clone, Copy)]
 pub struct PositionCount(pub usize);
 
 // What the thinning call says. `said_of` in specs/ gives each its number and values.
-#[derive(Drop)]
+#[derive(Clone, Copy)]
 pub enum ThinAnswer {
     Thinned(PositionCount),
     Refused(Refusal),

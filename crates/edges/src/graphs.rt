@@ -3,7 +3,7 @@ ghost use Rattle.std.specs.Prelude.{◌≤◌, ◌<◌};
 
 use road::wide;
 
-#[derive(Drop)]
+#[derive(Clone, Copy)]
 pub enum Case {
     Line,
     LineCut,
@@ -16,7 +16,7 @@ pub enum Case {
 }
 
 // What a node may have: no arc, or one with this head and weight.
-#[derive(Drop)]
+#[derive(Clone, Copy)]
 enum Slot {
     Empty,
     Arc(u32, u32),

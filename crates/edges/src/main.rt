@@ -3,6 +3,8 @@
 //
 // The file stdout is written from the rules and from how many nodes each search can reach, not from
 // what this program prints, so that the two are compared.
+#![tactic(auto)]
+
 mod graphs;
 mod numbers;
 mod rules;

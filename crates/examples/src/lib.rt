@@ -1,1 +1,2 @@
 // The examples are data and a theorem alone: see specs/ and proofs/.
+#![tactic(auto)]

@@ -2,6 +2,8 @@
 //
 // The file stdout is written from document 01, not from what this program prints, so that the two are
 // compared.
+#![tactic(auto)]
+
 mod asking;
 mod telling;
 

@@ -1,4 +1,6 @@
 // The frame program's state, and what each line does to it.
+#![tactic(auto)]
+
 mod answering;
 mod building;
 mod steps;
@@ -7,7 +9,7 @@ use road::{ArcCount, NodeCount};
 pub use steps::{first, take_end, take_line, take_unended};
 
 // How far the program is.
-#[derive(Drop)]
+#[derive(Clone, Copy)]
 pub enum Phase {
     Begun,
     Loading,
@@ -17,7 +19,7 @@ pub enum Phase {
 
 // What it keeps from line to line beside the lent areas: the lines read, the head's numbers, how
 // many arcs are read, and how many the overlay has.
-#[derive(Drop)]
+#[derive(Clone, Copy)]
 pub struct State {
     pub phase: Phase,
     pub lines: usize,
@@ -29,7 +31,7 @@ pub struct State {
 }
 
 // The state after a line, and where the output goes on.
-#[derive(Drop)]
+#[derive(Clone, Copy)]
 pub struct Taken {
     pub state: State,
     pub at: usize,
@@ -37,7 +39,7 @@ pub struct Taken {
 
 // Whether the map was built, or an answer given, rather than refused; how many arcs the overlay
 // has; where the output goes on.
-#[derive(Drop)]
+#[derive(Clone, Copy)]
 pub struct Done {
     pub good: bool,
     pub over: usize,

@@ -1,5 +1,7 @@
 // The calls once more for C and Rust: each is thin over the proved call, and says the same. An enum
 // goes as a struct, whose `refusal` is 0 or a refusal's number.
+#![tactic(auto)]
+
 mod distances;
 mod drives;
 mod overlays;
@@ -8,7 +10,7 @@ mod results;
 
 // A count, or a refusal. Where `refusal` is not 0 it is the refusal's number, and `count` is 0.
 #[repr(C)]
-#[derive(Drop)]
+#[derive(Clone, Copy)]
 pub struct GulvaneCount {
     pub refusal: u32,
     pub count: usize,
@@ -17,7 +19,7 @@ pub struct GulvaneCount {
 // A distance, or a refusal. Where `refusal` is 0, `way` is 1 and `weight` the weight, or both are 0
 // for no way.
 #[repr(C)]
-#[derive(Drop)]
+#[derive(Clone, Copy)]
 pub struct GulvaneDistance {
     pub refusal: u32,
     pub way: u32,

@@ -1,5 +1,7 @@
 // The frame program: it cuts standard input at line feeds and hands each line to `frames`. What a
 // line is and does is decided there.
+#![tactic(auto)]
+
 ghost use Rattle.std.specs.Prelude.{◌≡◌, true, ◌+◌, ◌≤◌, length};
 ghost use Rattle.lent.specs.Slices.{before};
 ghost use Rattle.frames.specs.Held.{Good, Lengths, map_room};
@@ -10,7 +12,7 @@ use frames::{Phase, State, Taken, first, take_end, take_line, take_unended};
 
 // Where the program is: the state, how much of the chunk is used and filled, how much of the line
 // is kept, and how much of the output waits.
-#[derive(Drop)]
+#[derive(Clone, Copy)]
 pub struct Run {
     pub state: State,
     pub used: usize,
@@ -21,7 +23,7 @@ pub struct Run {
 
 // A piece of a line: how much of the line is kept with it, where the chunk goes on, and whether a
 // line feed ended it.
-#[derive(Drop)]
+#[derive(Clone, Copy)]
 pub struct Piece {
     pub kept: usize,
     pub next: usize,

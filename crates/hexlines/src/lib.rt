@@ -1,4 +1,6 @@
 // Frame lines as text: upper-case hexadecimal, high digit first, and a line feed at the end.
+#![tactic(auto)]
+
 mod digits;
 mod lines;
 mod outputs;

@@ -1,4 +1,6 @@
 // A map: the graph that the arcs read make, its cover, its overlay, and its lines.
+#![tactic(auto)]
+
 mod calls;
 mod lists;
 mod printing;

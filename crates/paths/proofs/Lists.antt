@@ -22,6 +22,7 @@ mem? a (x ∷ l) = mem-by (ℕ_discrete a x) (mem? a l)
 pub mem_left : (a : ℕ) (l m : List ℕ) → Mem a l → Mem a (l ++ m)
 mem_left a (x ∷ l) m (inl e) = inl e
 mem_left a (x ∷ l) m (inr h) = inr (mem_left a l m h)
+mem_left a [] m x' = elim x' [ ]
 
 pub mem_right : (a : ℕ) (l m : List ℕ) → Mem a m → Mem a (l ++ m)
 mem_right a [] m h = h
@@ -42,10 +43,12 @@ mem_at (x ∷ l) (suc i) h = inr (mem_at l i (omega arith))
 pub place_of : (a : ℕ) (l : List ℕ) → Mem a l → (i : ℕ) × (i < length l) × (get_or l i 0 ≡ a)
 place_of a (x ∷ l) (inl e) = (0, omega arith, sym e)
 place_of a (x ∷ l) (inr h) = let p = place_of a l h in (suc p.0, omega (arith, p.1), p.2)
+place_of a [] x' = elim x' [ ]
 
 pub each_mem : (P : ℕ → Type 0) (a : ℕ) (l : List ℕ) → Each P l → Mem a l → P a
 each_mem P a (x ∷ l) e (inl q) = subst P (sym q) e.0
 each_mem P a (x ∷ l) e (inr h) = each_mem P a l e.1 h
+each_mem P a [] e x'' = elim x'' [ ]
 
 pub mem_each : (P : ℕ → Type 0) (l : List ℕ) → ((a : ℕ) → Mem a l → P a) → Each P l
 mem_each P [] f = tt
@@ -63,6 +66,7 @@ different_back (x ∷ l) m d = different_back l m d.1
 pub parts_apart : (a : ℕ) (l m : List ℕ) → Different (l ++ m) → Mem a l → Mem a m → ⊥
 parts_apart a (x ∷ l) m d (inl e) h = d.0 (subst (λ (y : ℕ). Mem y (l ++ m)) e (mem_right a l m h))
 parts_apart a (x ∷ l) m d (inr g) h = parts_apart a l m d.1 g h
+parts_apart a [] m d x3 h = elim x3 [ ]
 
 -- a list turned round onto another has the nodes of both
 pub mem_onto : (a : ℕ) (l m : List ℕ) → Mem a l ⊎ Mem a m → Mem a (reverse_aux l m)
@@ -129,6 +133,7 @@ without a (x ∷ l) (inr h) = further (without a l h)
         keep : (b : ℕ) → b ≢ a → Mem b (x ∷ l) → Mem b (x ∷ w.rest)
         keep b n (inl q) = inl q
         keep b n (inr g) = inr (w.others b n g)
+without a [] x' = elim x' [ ]
 
 -- different nodes that all stand in a list are at most as many as the list has
 pub length_at_most : (l m : List ℕ) → Different l → ((a : ℕ) → Mem a l → Mem a m) → length l ≤ length m

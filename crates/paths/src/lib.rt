@@ -1,1 +1,2 @@
 // No code: what a path is stands in specs/, the laws in proofs/.
+#![tactic(auto)]

@@ -1,4 +1,6 @@
 // Numbers and refusals, printed.
+#![tactic(auto)]
+
 use road::Refusal;
 
 // The label and the number.

@@ -1,4 +1,6 @@
 // What a line of bytes is read as.
+#![tactic(auto)]
+
 mod bytes;
 mod characters;
 
@@ -7,7 +9,7 @@ use road::{ArcCount, NodeCount};
 
 // What a line says: n, m and k; an arc's tail, head and weight; a question's two nodes; how many
 // nodes a drive has. A line of another shape, or with a number over a limit of the program, is wrong.
-#[derive(Drop)]
+#[derive(Clone, Copy)]
 pub enum Line {
     Head(NodeCount, ArcCount, NodeCount),
     Arc(u32, u32, u32),
@@ -17,14 +19,14 @@ pub enum Line {
 }
 
 // Two characters: the byte whose digits they are, or none.
-#[derive(Drop)]
+#[derive(Clone, Copy)]
 pub enum Pair {
     Byte(u8),
     NoByte,
 }
 
 // A line's characters: how many bytes they are the digits of, or none.
-#[derive(Drop)]
+#[derive(Clone, Copy)]
 pub enum Text {
     Bytes(usize),
     NoBytes,

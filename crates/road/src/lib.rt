@@ -2,6 +2,8 @@
 //
 // A graph is three slices: n + 1 starts, m heads, m weights. A check looks at what it is lent and
 // changes nothing; it may ask that the checks before it passed. The chains take any input.
+#![tactic(auto)]
+
 mod arcs;
 mod bounds;
 mod chains;
@@ -29,30 +31,30 @@ pub use spans::row;
 pub use starts::check_starts;
 
 // A count of nodes.
-#[derive(Drop)]
+#[derive(Clone, Copy)]
 pub struct NodeCount(pub usize);
 
 // A count of arcs. It is never added to a count of nodes nor compared with one: `arcs_on_path`
 // converts.
-#[derive(Drop)]
+#[derive(Clone, Copy)]
 pub struct ArcCount(pub usize);
 
 // The places from `first` up to, but not including, `end`.
-#[derive(Drop)]
+#[derive(Clone, Copy)]
 pub struct Span {
     pub first: usize,
     pub end: usize,
 }
 
 // What a graph may have at most: the road's limits, or the overlay's.
-#[derive(Drop)]
+#[derive(Clone, Copy)]
 pub struct Limits {
     pub arcs: ArcCount,
     pub weight: u32,
 }
 
 // Why a call is refused. `number_of` in specs/ gives each its number.
-#[derive(Drop)]
+#[derive(Clone, Copy)]
 pub enum Refusal {
     Sizes,
     Starts,
@@ -70,7 +72,7 @@ pub enum Refusal {
 }
 
 // What a check finds.
-#[derive(Drop)]
+#[derive(Clone, Copy)]
 pub enum Verdict {
     Passed,
     Refused(Refusal),

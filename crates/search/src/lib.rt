@@ -1,4 +1,6 @@
 // One search: the least weights from a source over paths with no blocked node strictly inside.
+#![tactic(auto)]
+
 mod labels;
 mod queue;
 

@@ -1,4 +1,6 @@
 // Turning a graph round.
+#![tactic(auto)]
+
 mod turning;
 
 pub use turning::turn;
