@@ -26,9 +26,9 @@ pub record Areas : Type 0 where
   pub sizes : List ℕ
 
 -- the same, gathered from the call's slices at one moment of it
-abbrev pub areas : {A : Type 0} → (A → List ℕ) → A → A → A → A → A → A → A → Areas
-areas at cover starts heads weights marks pieces sizes =
-    record { cover = at cover; starts = at starts; heads = at heads; weights = at weights; marks = at marks; pieces = at pieces; sizes = at sizes }
+abbrev pub areas : List ℕ → List ℕ → List ℕ → List ℕ → List ℕ → List ℕ → List ℕ → Areas
+areas cover starts heads weights marks pieces sizes =
+    record { cover = cover; starts = starts; heads = heads; weights = weights; marks = marks; pieces = pieces; sizes = sizes }
 
 -- their lengths, each with the length asked
 abbrev pub asked_lengths : ℕ → ℕ → Areas → List (ℕ × ℕ)

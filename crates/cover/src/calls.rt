@@ -1,6 +1,5 @@
 // The cover call.
 ghost use Rattle.std.specs.Prelude.{◌≡◌, [], ◌∷◌, ◌≤◌, length, replicate};
-ghost use Rattle.lent.specs.Slices.{before, after};
 ghost use Rattle.road.specs.Counting.{times};
 ghost use Rattle.road.specs.Faults.{lengths_fault};
 ghost use Rattle.road.specs.workings.Verdicts.{Judged};
@@ -16,7 +15,7 @@ use turning::turn;
 
 // How many of the bytes are 1.
 fn count_ones(s: &[u8]) -> NodeCount
-    ensures { result.0 ≡ times 1 (before s) }
+    ensures { result.0 ≡ times 1 s.now }
 {
     let mut count = 0;
     let mut i = 0;
@@ -42,7 +41,7 @@ fn check_lengths(
     sizes: &[u32],
 ) -> Verdict
     requires { n.0 ≤ 4096 }
-    ensures { Judged (lengths_fault (asked_lengths n.0 m.0 (areas before cover starts_back heads_back weights_back marks pieces sizes))) result }
+    ensures { Judged (lengths_fault (asked_lengths n.0 m.0 (areas cover.now starts_back.now heads_back.now weights_back.now marks.now pieces.now sizes.now))) result }
 {
     if cover.len() != n.0 {
         return Verdict::Refused(Refusal::Lengths);
@@ -77,8 +76,8 @@ fn clear_work(
     pieces: &mut [u32],
     sizes: &mut [u32],
 )
-    ensures starts_back_value { (after starts_back ≡ replicate (length (before starts_back)) 0) × (after heads_back ≡ replicate (length (before heads_back)) 0) × (after weights_back ≡ replicate (length (before weights_back)) 0) }
-    ensures marks_value { (after marks ≡ replicate (length (before marks)) 0) × (after pieces ≡ replicate (length (before pieces)) 0) × (after sizes ≡ replicate (length (before sizes)) 0) }
+    ensures starts_back_value { (starts_back.new ≡ replicate (length starts_back.old) 0) × (heads_back.new ≡ replicate (length heads_back.old) 0) × (weights_back.new ≡ replicate (length weights_back.old) 0) }
+    ensures marks_value { (marks.new ≡ replicate (length marks.old) 0) × (pieces.new ≡ replicate (length pieces.old) 0) × (sizes.new ≡ replicate (length sizes.old) 0) }
 {
     clear(starts_back);
     clear(heads_back);
@@ -103,8 +102,8 @@ fn build(
     pieces: &mut [u32],
     sizes: &mut [u32],
 ) -> NodeCount
-    requires { Ready starts.now heads.now weights.now k.0 order.now (areas (λ x. x.now) cover starts_back heads_back weights_back marks pieces sizes) }
-    ensures { Built (before starts) (before heads) (before weights) k.0 (before order) (areas after cover starts_back heads_back weights_back marks pieces sizes) result.0 }
+    requires { Ready starts.now heads.now weights.now k.0 order.now (areas cover.old starts_back.old heads_back.old weights_back.old marks.old pieces.old sizes.old) }
+    ensures { Built starts.now heads.now weights.now k.0 order.now (areas cover.new starts_back.new heads_back.new weights_back.new marks.new pieces.new sizes.new) result.0 }
 {
     fill_bytes(cover, 1);
     // A size left over would be sound but useless: it would hide rejections.
@@ -150,7 +149,7 @@ pub fn cover(
     pieces: &mut [u32],
     sizes: &mut [u32],
 ) -> CoverAnswer
-    ensures { Outcome (before starts) (before heads) (before weights) k.0 (before order) (areas before cover starts_back heads_back weights_back marks pieces sizes) (said_of result) (areas after cover starts_back heads_back weights_back marks pieces sizes) }
+    ensures { Outcome starts.now heads.now weights.now k.0 order.now (areas cover.old starts_back.old heads_back.old weights_back.old marks.old pieces.old sizes.old) (said_of result) (areas cover.new starts_back.new heads_back.new weights_back.new marks.new pieces.new sizes.new) }
 {
     let input = check_cover_input(starts, heads, weights, k, order);
     if let Verdict::Refused(r) = input {

@@ -2,10 +2,9 @@
 // Where the sizes of its neighbours' pieces tell that it is not, nothing is searched.
 // The weights are lent so that the contracts can name the graph; no answer depends on them.
 ghost use Rattle.std.specs.Prelude.{◌≡◌, ◌≤◌, ◌<◌, length, set};
-ghost use Rattle.lent.specs.Slices.{before, after};
 ghost use Rattle.paths.specs.Lists.{Each};
 ghost use Rattle.road.specs.workings.Verdicts.{Tells};
-ghost use Rattle.road.specs.Roads.{road_at};
+ghost use Rattle.road.specs.Roads.{road};
 ghost use Rattle.cover.specs.workings.Few.{Few};
 ghost use Rattle.pieces.specs.workings.Pieces.{Fits, Kept};
 ghost use Rattle.rule.specs.Rule.{Needed, PathOf, Prunes};
@@ -32,7 +31,7 @@ fn is_needed(
     requires prunable { Prunable starts.now heads.now weights.now starts_back.now heads_back.now weights_back.now cover.now }
     requires of_k { OfK k.0 }
     requires v_in_bounds { v < length cover.now }
-    ensures { Tells result (Needed (PathOf (road_at before starts heads weights) k.0) (before cover) v) }
+    ensures { Tells result (Needed (PathOf (road starts.now heads.now weights.now) k.0) cover.now v) }
 {
     let trail = Trail::of(v);
     let most = NodeCount(k.0 - 1);
@@ -56,7 +55,7 @@ fn is_needed(
 
 // Whether the dropped nodes and one more are fewer than k. Counting ends once they are not.
 fn too_few(cover: &[u8], k: NodeCount) -> bool
-    ensures { Few result (before cover) k.0 }
+    ensures { Few result cover.now k.0 }
 {
     let mut nodes = 1;
     let mut v = 0;
@@ -92,9 +91,9 @@ fn stays(
 ) -> bool
     requires prunable { Prunable starts.now heads.now weights.now starts_back.now heads_back.now weights_back.now cover.now }
     requires of_k { OfK k.0 }
-    requires fits { Fits (road_at (λ x. x.now) starts heads weights) k.0 cover.now sizes.now v r.0 }
+    requires fits { Fits (road starts.now heads.now weights.now) k.0 cover.now sizes.now v r.0 }
     requires v_in_bounds { v < length cover.now }
-    ensures { Tells result (Needed (PathOf (road_at before starts heads weights) k.0) (before cover) v) }
+    ensures { Tells result (Needed (PathOf (road starts.now heads.now weights.now) k.0) cover.now v) }
 {
     if r.0 < k.0 {
         return false;
@@ -132,11 +131,11 @@ fn drop_node(
 )
     requires prunable { Prunable starts.now heads.now weights.now starts_back.now heads_back.now weights_back.now cover.old }
     requires of_k { OfK k.0 }
-    requires kept { Kept (road_at (λ x. x.now) starts heads weights) k.0 cover.old sizes.old pieces.old }
-    requires fits { Fits (road_at (λ x. x.now) starts heads weights) k.0 cover.old sizes.old v r.0 }
+    requires kept { Kept (road starts.now heads.now weights.now) k.0 cover.old sizes.old pieces.old }
+    requires fits { Fits (road starts.now heads.now weights.now) k.0 cover.old sizes.old v r.0 }
     requires v_in_bounds { v < length cover.old }
-    ensures cover_value { after cover ≡ set (before cover) v 0 }
-    ensures kept_2 { Kept (road_at before starts heads weights) k.0 (after cover) (after sizes) (after pieces) }
+    ensures cover_value { cover.new ≡ set cover.old v 0 }
+    ensures kept_2 { Kept (road starts.now heads.now weights.now) k.0 cover.new sizes.new pieces.new }
 {
     let size = r.0 as u32;
     cover[wide(v)] = 0;
@@ -172,10 +171,10 @@ fn take_node(
 )
     requires prunable { Prunable starts.now heads.now weights.now starts_back.now heads_back.now weights_back.now cover.old }
     requires of_k { OfK k.0 }
-    requires kept { Kept (road_at (λ x. x.now) starts heads weights) k.0 cover.old sizes.old pieces.old }
+    requires kept { Kept (road starts.now heads.now weights.now) k.0 cover.old sizes.old pieces.old }
     requires v_in_bounds { v < length cover.old }
-    ensures took { Took (PathOf (road_at before starts heads weights) k.0) v (before cover) (after cover) }
-    ensures kept_2 { Kept (road_at before starts heads weights) k.0 (after cover) (after sizes) (after pieces) }
+    ensures took { Took (PathOf (road starts.now heads.now weights.now) k.0) v cover.old cover.new }
+    ensures kept_2 { Kept (road starts.now heads.now weights.now) k.0 cover.new sizes.new pieces.new }
 {
     let r = size_for(
         starts,
@@ -237,9 +236,9 @@ pub fn prune(
 )
     requires prunable { Prunable starts.now heads.now weights.now starts_back.now heads_back.now weights_back.now cover.old }
     requires of_k { OfK k.0 }
-    requires kept { Kept (road_at (λ x. x.now) starts heads weights) k.0 cover.old sizes.old pieces.old }
+    requires kept { Kept (road starts.now heads.now weights.now) k.0 cover.old sizes.old pieces.old }
     requires each { Each (λ v. v < length cover.old) order.now }
-    ensures { Prunes (PathOf (road_at before starts heads weights) k.0) (before order) (before cover) (after cover) }
+    ensures { Prunes (PathOf (road starts.now heads.now weights.now) k.0) order.now cover.old cover.new }
 {
     let mut i = 0;
     while i < order.len() {

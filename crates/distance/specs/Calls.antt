@@ -31,9 +31,9 @@ pub record HandAreas : Type 0 where
   pub blocked : List ℕ
 
 -- the same, gathered from the call's slices at one moment of it
-abbrev pub hand_areas : {A : Type 0} → (A → List ℕ) → A → A → A → A → A → HandAreas
-hand_areas at labels heap places touched blocked =
-    record { labels = at labels; heap = at heap; places = at places; touched = at touched; blocked = at blocked }
+abbrev pub hand_areas : List ℕ → List ℕ → List ℕ → List ℕ → List ℕ → HandAreas
+hand_areas labels heap places touched blocked =
+    record { labels = labels; heap = heap; places = places; touched = touched; blocked = blocked }
 
 abbrev pub hand_lengths : ℕ → HandAreas → List (ℕ × ℕ)
 hand_lengths n a = (length a.labels, n) ∷ (length a.heap, 2 * n) ∷ (length a.places, n) ∷ (length a.touched, n) ∷ (length a.blocked, n) ∷ []
@@ -73,19 +73,19 @@ pub record PairAreas : Type 0 where
   pub blocked : List ℕ
 
 -- the same, gathered from the call's slices at one moment of it
-abbrev pub pair_areas : {A : Type 0} → (A → List ℕ) → A → A → A → A → A → A → A → A → A → A → PairAreas
-pair_areas at starts heads weights outward inward labels heap places touched blocked =
+abbrev pub pair_areas : List ℕ → List ℕ → List ℕ → List ℕ → List ℕ → List ℕ → List ℕ → List ℕ → List ℕ → List ℕ → PairAreas
+pair_areas starts heads weights outward inward labels heap places touched blocked =
     record {
-      starts = at starts;
-      heads = at heads;
-      weights = at weights;
-      outward = at outward;
-      inward = at inward;
-      labels = at labels;
-      heap = at heap;
-      places = at places;
-      touched = at touched;
-      blocked = at blocked;
+      starts = starts;
+      heads = heads;
+      weights = weights;
+      outward = outward;
+      inward = inward;
+      labels = labels;
+      heap = heap;
+      places = places;
+      touched = touched;
+      blocked = blocked;
     }
 
 -- the lengths of the graph turned round and of the rows

@@ -1,9 +1,8 @@
 // The two questions, everything being checked. Work is cleared before, since it may hold anything,
 // and left zero.
 ghost use Rattle.std.specs.Prelude.{◌≡◌, length, replicate};
-ghost use Rattle.lent.specs.Slices.{before, after};
 ghost use Rattle.paths.specs.Least.{Told};
-ghost use Rattle.road.specs.Roads.{nodes_of, road_at};
+ghost use Rattle.road.specs.Roads.{nodes_of, road};
 ghost use Rattle.distance.specs.workings.Ready.{HandReady, PairReady};
 ghost use Rattle.distance.specs.Calls.{pair_areas, hand_areas, hand_cleared, pair_cleared};
 ghost use Rattle.distance.specs.workings.Labels.{RowsAsked, RowsFound, label_of};
@@ -18,7 +17,7 @@ use turning::turn;
 
 // Fills the queue, and what goes with it, with zeros.
 fn clear_queue(heap: &mut [u32], places: &mut [u32], touched: &mut [u32], blocked: &mut [u8])
-    ensures { (after heap ≡ replicate (length (before heap)) 0) × (after places ≡ replicate (length (before places)) 0) × (after touched ≡ replicate (length (before touched)) 0) × (after blocked ≡ replicate (length (before blocked)) 0) }
+    ensures { (heap.new ≡ replicate (length heap.old) 0) × (places.new ≡ replicate (length places.old) 0) × (touched.new ≡ replicate (length touched.old) 0) × (blocked.new ≡ replicate (length blocked.old) 0) }
 {
     clear(heap);
     clear(places);
@@ -35,8 +34,8 @@ fn clear_rows(
     inward: &mut [u64],
     labels: &mut [u64],
 )
-    ensures starts_back_value { (after starts_back ≡ replicate (length (before starts_back)) 0) × (after heads_back ≡ replicate (length (before heads_back)) 0) × (after weights_back ≡ replicate (length (before weights_back)) 0) }
-    ensures outward_value { (after outward ≡ replicate (length (before outward)) 0) × (after inward ≡ replicate (length (before inward)) 0) × (after labels ≡ replicate (length (before labels)) 0) }
+    ensures starts_back_value { (starts_back.new ≡ replicate (length starts_back.old) 0) × (heads_back.new ≡ replicate (length heads_back.old) 0) × (weights_back.new ≡ replicate (length weights_back.old) 0) }
+    ensures outward_value { (outward.new ≡ replicate (length outward.old) 0) × (inward.new ≡ replicate (length inward.old) 0) × (labels.new ≡ replicate (length labels.old) 0) }
 {
     clear(starts_back);
     clear(heads_back);
@@ -59,9 +58,9 @@ pub fn ask_overlay(
     touched: &mut [u32],
     blocked: &mut [u8],
 ) -> Distance
-    requires { HandReady starts.now heads.now weights.now s t (hand_areas (λ x. x.now) labels heap places touched blocked) }
-    ensures told { Told (Handheld (road_at before starts heads weights) s t) (label_of result) }
-    ensures blocked_value { hand_areas after labels heap places touched blocked ≡ hand_cleared (nodes_of (before starts)) }
+    requires { HandReady starts.now heads.now weights.now s t (hand_areas labels.old heap.old places.old touched.old blocked.old) }
+    ensures told { Told (Handheld (road starts.now heads.now weights.now) s t) (label_of result) }
+    ensures blocked_value { hand_areas labels.new heap.new places.new touched.new blocked.new ≡ hand_cleared (nodes_of starts.now) }
 {
     clear_queue(heap, places, touched, blocked);
     search(starts, heads, weights, blocked, s, labels, heap, places);
@@ -87,8 +86,8 @@ fn find_rows(
     places: &mut [u32],
 )
     requires { RowsAsked starts.now heads.now weights.now set.now s t starts_back.old heads_back.old weights_back.old outward.old inward.old heap.old places.old }
-    ensures rows_found { RowsFound (road_at before starts heads weights) (before set) s t (after outward) (after inward) }
-    ensures heap_value { (after heap ≡ before heap) × (after places ≡ before places) }
+    ensures rows_found { RowsFound (road starts.now heads.now weights.now) set.now s t outward.new inward.new }
+    ensures heap_value { (heap.new ≡ heap.old) × (places.new ≡ places.old) }
 {
     turn(
         starts,
@@ -133,9 +132,9 @@ pub fn ask_pair(
     touched: &mut [u32],
     blocked: &mut [u8],
 ) -> Distance
-    requires { PairReady starts.now heads.now weights.now set.now over_starts.now over_heads.now over_weights.now s t (pair_areas (λ x. x.now) starts_back heads_back weights_back outward inward labels heap places touched blocked) }
-    ensures told { Told (AnyPair (road_at before starts heads weights) (road_at before over_starts over_heads over_weights) (before set) s t) (label_of result) }
-    ensures blocked_value { pair_areas after starts_back heads_back weights_back outward inward labels heap places touched blocked ≡ pair_cleared (nodes_of (before starts)) (length (before heads)) }
+    requires { PairReady starts.now heads.now weights.now set.now over_starts.now over_heads.now over_weights.now s t (pair_areas starts_back.old heads_back.old weights_back.old outward.old inward.old labels.old heap.old places.old touched.old blocked.old) }
+    ensures told { Told (AnyPair (road starts.now heads.now weights.now) (road over_starts.now over_heads.now over_weights.now) set.now s t) (label_of result) }
+    ensures blocked_value { pair_areas starts_back.new heads_back.new weights_back.new outward.new inward.new labels.new heap.new places.new touched.new blocked.new ≡ pair_cleared (nodes_of starts.now) (length heads.now) }
 {
     clear_queue(heap, places, touched, blocked);
     find_rows(

@@ -1,6 +1,5 @@
 // The two calls.
 ghost use Rattle.std.specs.Prelude.{◌≡◌, ◌≤◌};
-ghost use Rattle.lent.specs.Slices.{before, after};
 ghost use Rattle.road.specs.Faults.{lengths_fault};
 ghost use Rattle.road.specs.workings.Verdicts.{Judged};
 ghost use Rattle.distance.specs.Calls.{pair_areas, hand_areas, HandOutcome, PairOutcome, hand_lengths, pair_lengths, row_lengths, said_of};
@@ -32,7 +31,7 @@ fn check_hand_lengths(
     blocked: &[u8],
 ) -> Verdict
     requires { n.0 ≤ 4096 }
-    ensures { Judged (lengths_fault (hand_lengths n.0 (hand_areas before labels heap places touched blocked))) result }
+    ensures { Judged (lengths_fault (hand_lengths n.0 (hand_areas labels.now heap.now places.now touched.now blocked.now))) result }
 {
     if labels.len() != n.0 {
         return Verdict::Refused(Refusal::Lengths);
@@ -63,7 +62,7 @@ fn check_row_lengths(
     inward: &[u64],
 ) -> Verdict
     requires { n.0 ≤ 4096 }
-    ensures { Judged (lengths_fault (row_lengths n.0 m.0 (before starts_back) (before heads_back) (before weights_back) (before outward) (before inward))) result }
+    ensures { Judged (lengths_fault (row_lengths n.0 m.0 starts_back.now heads_back.now weights_back.now outward.now inward.now)) result }
 {
     if starts_back.len() != n.0 + 1 {
         return Verdict::Refused(Refusal::Lengths);
@@ -98,7 +97,7 @@ pub fn handheld(
     touched: &mut [u32],
     blocked: &mut [u8],
 ) -> DistanceAnswer
-    ensures { HandOutcome (before set) (before over_starts) (before over_heads) (before over_weights) s t (hand_areas before labels heap places touched blocked) (said_of result) (hand_areas after labels heap places touched blocked) }
+    ensures { HandOutcome set.now over_starts.now over_heads.now over_weights.now s t (hand_areas labels.old heap.old places.old touched.old blocked.old) (said_of result) (hand_areas labels.new heap.new places.new touched.new blocked.new) }
 {
     let input = check_hand_input(set, over_starts, over_heads, over_weights, s, t);
     if let Verdict::Refused(r) = input {
@@ -140,7 +139,7 @@ fn check_pair_lengths(
     blocked: &[u8],
 ) -> Verdict
     requires { n.0 ≤ 4096 }
-    ensures { Judged (lengths_fault (pair_lengths n.0 m.0 (pair_areas before starts_back heads_back weights_back outward inward labels heap places touched blocked))) result }
+    ensures { Judged (lengths_fault (pair_lengths n.0 m.0 (pair_areas starts_back.now heads_back.now weights_back.now outward.now inward.now labels.now heap.now places.now touched.now blocked.now))) result }
 {
     let rows = check_row_lengths(n, m, starts_back, heads_back, weights_back, outward, inward);
     let Verdict::Passed = rows else {
@@ -172,7 +171,7 @@ pub fn any_pair(
     touched: &mut [u32],
     blocked: &mut [u8],
 ) -> DistanceAnswer
-    ensures { PairOutcome (before starts) (before heads) (before weights) (before set) (before over_starts) (before over_heads) (before over_weights) s t (pair_areas before starts_back heads_back weights_back outward inward labels heap places touched blocked) (said_of result) (pair_areas after starts_back heads_back weights_back outward inward labels heap places touched blocked) }
+    ensures { PairOutcome starts.now heads.now weights.now set.now over_starts.now over_heads.now over_weights.now s t (pair_areas starts_back.old heads_back.old weights_back.old outward.old inward.old labels.old heap.old places.old touched.old blocked.old) (said_of result) (pair_areas starts_back.new heads_back.new weights_back.new outward.new inward.new labels.new heap.new places.new touched.new blocked.new) }
 {
     let input = check_pair_input(
         starts,

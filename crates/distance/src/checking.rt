@@ -1,5 +1,4 @@
 // What the questions check before their lengths.
-ghost use Rattle.lent.specs.Slices.{before};
 ghost use Rattle.road.specs.workings.Verdicts.{Judges};
 ghost use Rattle.distance.specs.Calls.{hand_input, pair_input};
 
@@ -17,7 +16,7 @@ pub fn check_hand_input(
     s: u32,
     t: u32,
 ) -> Verdict
-    ensures { Judges (hand_input (before set) (before over_starts) (before over_heads) (before over_weights) s t) result }
+    ensures { Judges (hand_input set.now over_starts.now over_heads.now over_weights.now s t) result }
 {
     let first = check_lone_set(set);
     let Verdict::Passed = first else {
@@ -46,7 +45,7 @@ pub fn check_pair_input(
     s: u32,
     t: u32,
 ) -> Verdict
-    ensures { Judges (pair_input (before starts) (before heads) (before weights) (before set) (before over_starts) (before over_heads) (before over_weights) s t) result }
+    ensures { Judges (pair_input starts.now heads.now weights.now set.now over_starts.now over_heads.now over_weights.now s t) result }
 {
     let first = check_road_and_set(starts, heads, weights, set);
     let Verdict::Passed = first else {

@@ -1,6 +1,5 @@
 // Distances shown, compared and summed.
 ghost use Rattle.std.specs.Prelude.{◌≡◌, ◌<◌, length};
-ghost use Rattle.lent.specs.Slices.{before};
 ghost use Rattle.paths.specs.Least.{Told};
 ghost use Rattle.distance.specs.workings.Labels.{Gate, Lesser, Modest, Summed, label_of};
 
@@ -56,7 +55,7 @@ pub fn gate(set: &[u8], row: &[u64], s: usize, v: usize) -> Distance
     requires s_in_bounds { s < length set.now }
     requires v_in_bounds { v < length set.now }
     requires row_len { length row.now ≡ length set.now }
-    ensures { Told (Gate (before set) (before row) s v) (label_of result) }
+    ensures { Told (Gate set.now row.now s v) (label_of result) }
 {
     if set[s] == 1 {
         if v == s {

@@ -1,8 +1,7 @@
 // The ways through the overlay: in at one node of the set, and out at another.
 ghost use Rattle.std.specs.Prelude.{◌≡◌, ◌<◌, length, get_or};
-ghost use Rattle.lent.specs.Slices.{before, after};
 ghost use Rattle.paths.specs.Least.{Told};
-ghost use Rattle.road.specs.Roads.{nodes_of, road_at};
+ghost use Rattle.road.specs.Roads.{nodes_of, road};
 ghost use Rattle.distance.specs.workings.Labels.{Entries, Exits, Gate, Modest, Rows, Says, Searchable, Small, Sum, Through, label_of};
 ghost use Rattle.search.specs.workings.Rows.{label_at};
 
@@ -27,7 +26,7 @@ fn through_exit(
     requires small { Small labels.now }
     requires small_2 { Small inward.now }
     requires modest { Modest (label_of first) }
-    ensures { Told (Sum (Says (label_of first)) (Says (label_at (before labels) b)) (Gate (before set) (before inward) t b)) (label_of result) }
+    ensures { Told (Sum (Says (label_of first)) (Says (label_at labels.now b)) (Gate set.now inward.now t b)) (label_of result) }
 {
     let middle = shown(labels[b]);
     let last = gate(set, inward, t, b);
@@ -42,7 +41,7 @@ fn through_exits(set: &[u8], labels: &[u64], inward: &[u64], t: usize, first: Di
     requires small { Small labels.now }
     requires small_2 { Small inward.now }
     requires modest { Modest (label_of first) }
-    ensures { Told (Exits (before set) (before labels) (before inward) t (label_of first) (length (before set))) (label_of result) }
+    ensures { Told (Exits set.now labels.now inward.now t (label_of first) (length set.now)) (label_of result) }
 {
     let mut best = Distance::NoWay;
     let mut b = 0;
@@ -73,8 +72,8 @@ fn through_entry(
     requires searchable { Searchable starts.now heads.now weights.now blocked.now labels.old heap.old places.old }
     requires rows { Rows set.now outward.now inward.now s t (nodes_of starts.now) }
     requires a_bound { a < nodes_of starts.now }
-    ensures told { Told (Through (road_at before starts heads weights) (before set) (before outward) (before inward) s t a) (label_of result) }
-    ensures heap_value { (after heap ≡ before heap) × (after places ≡ before places) }
+    ensures told { Told (Through (road starts.now heads.now weights.now) set.now outward.now inward.now s t a) (label_of result) }
+    ensures heap_value { (heap.new ≡ heap.old) × (places.new ≡ places.old) }
 {
     let first = gate(set, outward, s, a);
     let Distance::Way(_) = first else {
@@ -101,8 +100,8 @@ pub fn through_overlay(
 ) -> Distance
     requires searchable { Searchable starts.now heads.now weights.now blocked.now labels.old heap.old places.old }
     requires rows { Rows set.now outward.now inward.now s t (nodes_of starts.now) }
-    ensures told { Told (Entries (road_at before starts heads weights) (before set) (before outward) (before inward) s t (length (before set))) (label_of result) }
-    ensures heap_value { (after heap ≡ before heap) × (after places ≡ before places) }
+    ensures told { Told (Entries (road starts.now heads.now weights.now) set.now outward.now inward.now s t (length set.now)) (label_of result) }
+    ensures heap_value { (heap.new ≡ heap.old) × (places.new ≡ places.old) }
 {
     let mut best = Distance::NoWay;
     let mut a = 0;

@@ -1,5 +1,4 @@
 // The thinning call.
-ghost use Rattle.lent.specs.Slices.{before, after};
 ghost use Rattle.drive.specs.Calls.{Outcome, said_of};
 
 use crate::ThinAnswer;
@@ -16,7 +15,7 @@ pub fn thin(
     drive: &[u32],
     positions: &mut [u32],
 ) -> ThinAnswer
-    ensures { Outcome (before starts) (before heads) (before weights) (before set) (before drive) (before positions) (said_of result) (after positions) }
+    ensures { Outcome starts.now heads.now weights.now set.now drive.now positions.old (said_of result) positions.new }
 {
     let input = check_drive_input(starts, heads, weights, set, drive);
     if let Verdict::Refused(r) = input {

@@ -1,6 +1,5 @@
 // The pass over a drive that picks the positions to keep.
 ghost use Rattle.std.specs.Prelude.{◌<◌, length, get_or};
-ghost use Rattle.lent.specs.Slices.{before, after};
 ghost use Rattle.road.specs.workings.Verdicts.{Tells};
 ghost use Rattle.drive.specs.workings.Picking.{Fits, Picking};
 ghost use Rattle.drive.specs.Thinning.{Kept};
@@ -12,7 +11,7 @@ use road::wide;
 fn is_kept(set: &[u8], drive: &[u32], i: usize) -> bool
     requires i_in_bounds { i < length drive.now }
     requires i_in_bounds_2 { get_or drive.now i 0 < length set.now }
-    ensures { Tells result (Kept (before set) (before drive) i) }
+    ensures { Tells result (Kept set.now drive.now i) }
 {
     if set[wide(drive[i])] == 1 {
         return true;
@@ -23,7 +22,7 @@ fn is_kept(set: &[u8], drive: &[u32], i: usize) -> bool
 // Writes the kept positions from the front on, ascending, and gives their count.
 pub fn pick(set: &[u8], drive: &[u32], positions: &mut [u32]) -> PositionCount
     requires { Fits set.now drive.now positions.old }
-    ensures { Picking (before set) (before drive) (before positions) (length (before drive)) (after positions) result.0 }
+    ensures { Picking set.now drive.now positions.old (length drive.now) positions.new result.0 }
 {
     let mut count = 0;
     let mut i = 0;

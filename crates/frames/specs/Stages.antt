@@ -22,10 +22,6 @@ abbrev pub areas : List ℕ → List ℕ → List ℕ → List ℕ → List ℕ 
 areas t h w s c s' h' w' =
     record { tails = t; heads = h; weights = w; starts = s; chosen = c; over_starts = s'; over_heads = h'; over_weights = w' }
 
--- the same of the slices that are lent, at one moment of a call
-abbrev pub areas_at : {A : Type 0} → (A → List ℕ) → A → A → A → A → A → A → A → A → Areas
-areas_at at t h w s c s' h' w' = areas (at t) (at h) (at w) (at s) (at c) (at s') (at h') (at w')
-
 -- the map that stands at the front of its areas
 abbrev pub map_of : ℕ → ℕ → ℕ → List ℕ → List ℕ → List ℕ → List ℕ → List ℕ → List ℕ → List ℕ → Map
 map_of n m over s h w c s' h' w' =
@@ -38,9 +34,6 @@ map_of n m over s h w c s' h' w' =
       over_heads = take over h';
       over_weights = take over w';
     }
-
-abbrev pub map_at : {A : Type 0} → (A → List ℕ) → ℕ → ℕ → ℕ → A → A → A → A → A → A → A → Map
-map_at at n m over s h w c s' h' w' = map_of n m over (at s) (at h) (at w) (at c) (at s') (at h') (at w')
 
 abbrev pub map_in : State → Areas → Map
 map_in s A =

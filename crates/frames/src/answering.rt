@@ -1,6 +1,5 @@
 // Refusals, questions and drives: what is printed for them.
 ghost use Rattle.std.specs.Prelude.{◌≡◌, false, ◌+◌, ◌*◌, ◌≤◌, length};
-ghost use Rattle.lent.specs.Slices.{before, after};
 ghost use Rattle.hexlines.specs.Outputs.{text_of};
 ghost use Rattle.hexlines.specs.Writers.{Wrote};
 ghost use Rattle.maps.specs.workings.Calls.{GraphFits};
@@ -17,7 +16,7 @@ use road::{Refusal, number};
 // Prints a refusal.
 pub fn refuse(r: Refusal, line: usize, out: &mut [u8], at: usize) -> Done
     requires { at + 9 ≤ length out.old }
-    ensures { (result.good ≡ false) × (Wrote (before out) at (text_of (refused_by r line)) (after out) result.at) × (result.over ≡ 0) }
+    ensures { (result.good ≡ false) × (Wrote out.old at (text_of (refused_by r line)) out.new result.at) × (result.over ≡ 0) }
 {
     let next = write_refusal(out, at, number(r), line);
     Done {
@@ -44,7 +43,7 @@ pub fn answer_question(
 ) -> Done
     requires graph_fits { GraphFits starts.now heads.now }
     requires at_in_bounds { at + 29 ≤ length out.old }
-    ensures { Answered line (record { starts = before starts; heads = before heads; weights = before weights; chosen = before set; over_starts = before over_starts; over_heads = before over_heads; over_weights = before over_weights }) a b result.good (before out) at (after out) result.at }
+    ensures { Answered line (record { starts = starts.now; heads = heads.now; weights = weights.now; chosen = set.now; over_starts = over_starts.now; over_heads = over_heads.now; over_weights = over_weights.now }) a b result.good out.old at out.new result.at }
 {
     let found = find_distance(
         starts,
@@ -92,7 +91,7 @@ pub fn answer_drive(
 ) -> Done
     requires nodes_len_bound { (length nodes.now ≤ 64) × (length positions.old ≡ length nodes.now) }
     requires at_in_bounds { at + 133 ≤ length out.old }
-    ensures { Thinned line (before starts) (before heads) (before weights) (before set) (before nodes) result.good (before out) at (after out) result.at }
+    ensures { Thinned line starts.now heads.now weights.now set.now nodes.now result.good out.old at out.new result.at }
 {
     let found = thin(starts, heads, weights, set, nodes, positions);
     match found {

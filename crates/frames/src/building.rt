@@ -1,6 +1,5 @@
 // The moment of building.
 ghost use Rattle.std.specs.Prelude.{◌∷◌, ◌++◌, suc, ◌+◌, ◌*◌, ◌≤◌, length, take};
-ghost use Rattle.lent.specs.Slices.{before, after};
 ghost use Rattle.hexlines.specs.Outputs.{counts, text_of};
 ghost use Rattle.hexlines.specs.Writers.{Wrote};
 ghost use Rattle.maps.specs.Lists.{arc_lines, point_lines};
@@ -28,7 +27,7 @@ fn print_map(
 ) -> usize
     requires set_in_bounds { at + 11 + 7 * length set.now ≤ length out.old }
     requires rows_fit { RowsFit over_starts.now over_heads.now over_weights.now n (at + 11 + 7 * length set.now) (length out.old) }
-    ensures { Wrote (before out) at (text_of (counts points (length (before over_heads)) ∷ point_lines 0 (before set) ++ arc_lines (before over_starts) (before over_heads) (before over_weights) n)) (after out) result }
+    ensures { Wrote out.old at (text_of (counts points (length over_heads.now) ∷ point_lines 0 set.now ++ arc_lines over_starts.now over_heads.now over_weights.now n)) out.new result }
 {
     let first = write_counts(out, at, points, over_heads.len());
     let second = write_points(out, first, set);
@@ -50,7 +49,7 @@ fn lay(
     at: usize,
 ) -> Done
     requires { LayFits starts.now heads.now set.now over_starts.old over_heads.old over_weights.old at out.old }
-    ensures { Laid line points result.good (record { starts = before starts; heads = before heads; weights = before weights; chosen = before set; over_starts = after over_starts; over_heads = take result.over (after over_heads); over_weights = take result.over (after over_weights) }) result.over (before out) at (after out) result.at }
+    ensures { Laid line points result.good (record { starts = starts.now; heads = heads.now; weights = weights.now; chosen = set.now; over_starts = over_starts.new; over_heads = take result.over over_heads.new; over_weights = take result.over over_weights.new }) result.over out.old at out.new result.at }
 {
     let laid = find_overlay(
         starts,
@@ -101,7 +100,7 @@ pub fn build(
     at: usize,
 ) -> Done
     requires { BuildFits tails.now heads.now starts.old set.old over_starts.old over_heads.old over_weights.old at out.old }
-    ensures { Built line (before tails) (before heads) (before weights) k.0 (length (before starts)) result.good (record { starts = after starts; heads = before heads; weights = before weights; chosen = after set; over_starts = after over_starts; over_heads = take result.over (after over_heads); over_weights = take result.over (after over_weights) }) result.over (before out) at (after out) result.at }
+    ensures { Built line tails.now heads.now weights.now k.0 (length starts.old) result.good (record { starts = starts.new; heads = heads.now; weights = weights.now; chosen = set.new; over_starts = over_starts.new; over_heads = take result.over over_heads.new; over_weights = take result.over over_weights.new }) result.over out.old at out.new result.at }
 {
     write_starts(tails, starts);
     let covered = find_cover(starts, heads, weights, k, set);

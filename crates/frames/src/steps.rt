@@ -1,13 +1,12 @@
 // What each line does to the program's state.
 ghost use Rattle.std.specs.Prelude.{◌≡◌, true, [], ◌+◌, ◌≤◌, ◌<◌, length, take};
-ghost use Rattle.lent.specs.Slices.{before, after};
 ghost use Rattle.maps.specs.Lists.{starts_of};
 ghost use Rattle.readings.specs.declared.Line.TheVariants.{Arc};
 ghost use Rattle.frames.specs.declared.Phase.TheVariants.{Stopped};
 ghost use Rattle.frames.specs.workings.Held.{Answered, ReadFits, Thinned};
 ghost use Rattle.frames.specs.Held.{Good, Lengths, Printed, map_room, stage_if};
 ghost use Rattle.frames.specs.workings.Judging.{Falls, Halted, Judged, Settled};
-ghost use Rattle.frames.specs.Stages.{areas_at, map_at, Left, Starts, TookEnd, TookLine, TookUnended, areas, goes, loading_in};
+ghost use Rattle.frames.specs.Stages.{areas, map_of, Left, Starts, TookEnd, TookLine, TookUnended, goes, loading_in};
 ghost use Rattle.frames.specs.Steps.{Builds, Loads, begun, asking};
 
 use crate::answering::{answer_drive, answer_question, refuse};
@@ -35,7 +34,7 @@ pub fn first() -> State
 fn stop(line: usize, out: &mut [u8], at: usize) -> Taken
     requires at_in_bounds { at + 9 ≤ length out.old }
     requires line_bound { line ≤ 65535 }
-    ensures { Halted line result.state (before out) at (after out) result.at }
+    ensures { Halted line result.state out.old at out.new result.at }
 {
     let done = refuse(Refusal::Line, line, out, at);
     let next = done.at;
@@ -109,7 +108,7 @@ fn complete(
     requires lengths { Lengths tails.now heads.now weights.now starts.old set.old over_starts.old over_heads.old over_weights.old }
     requires map_room_in_bounds { at + map_room ≤ length out.old }
     requires line_bound { line ≤ 65535 }
-    ensures { Left (Builds line (starts_of n.0 (take m.0 (before tails))) (take m.0 (before heads)) (take m.0 (before weights)) k.0) line result.state (areas (before tails) (before heads) (before weights) (after starts) (after set) (after over_starts) (after over_heads) (after over_weights)) (before out) at (after out) result.at }
+    ensures { Left (Builds line (starts_of n.0 (take m.0 tails.now)) (take m.0 heads.now) (take m.0 weights.now) k.0) line result.state (areas tails.now heads.now weights.now starts.new set.new over_starts.new over_heads.new over_weights.new) out.old at out.new result.at }
 {
     let nodes = n.0;
     let arcs = m.0;
@@ -158,7 +157,7 @@ fn take_head(
     requires lengths { Lengths tails.now heads.now weights.now starts.old set.old over_starts.old over_heads.old over_weights.old }
     requires map_room_in_bounds { at + map_room ≤ length out.old }
     requires line_value { line ≡ 1 }
-    ensures { Left (Loads line n.0 m.0 k.0 [] [] []) line result.state (areas (before tails) (before heads) (before weights) (after starts) (after set) (after over_starts) (after over_heads) (after over_weights)) (before out) at (after out) result.at }
+    ensures { Left (Loads line n.0 m.0 k.0 [] [] []) line result.state (areas tails.now heads.now weights.now starts.new set.new over_starts.new over_heads.new over_weights.new) out.old at out.new result.at }
 {
     if 0 < m.0 {
         return Taken {
@@ -195,7 +194,7 @@ fn take_head(
 // Whether the tail is at or above n, or below the former.
 fn falls(n: NodeCount, tails: &[u32], count: usize, tail: u32) -> bool
     requires { count ≤ length tails.now }
-    ensures { Falls result n.0 tail (take count (before tails)) }
+    ensures { Falls result n.0 tail (take count tails.now) }
 {
     if n.0 <= wide(tail) {
         return true;
@@ -232,7 +231,7 @@ fn take_arc(
     requires map_room_in_bounds { at + map_room ≤ length out.old }
     requires line_bound { line ≤ 65535 }
     requires line_value { line ≡ s.count.0 + 2 }
-    ensures { Left (Judged line (loading_in s (areas_at before tails heads weights starts set over_starts over_heads over_weights)) (Arc tail head weight) []) line result.state (areas_at after tails heads weights starts set over_starts over_heads over_weights) (before out) at (after out) result.at }
+    ensures { Left (Judged line (loading_in s (areas tails.old heads.old weights.old starts.old set.old over_starts.old over_heads.old over_weights.old)) (Arc tail head weight) []) line result.state (areas tails.new heads.new weights.new starts.new set.new over_starts.new over_heads.new over_weights.new) out.old at out.new result.at }
 {
     let n = s.n;
     let m = s.m;
@@ -295,7 +294,7 @@ fn take_question(
     requires n_bound { (s.n.0 ≤ 512) × (s.m.0 ≤ 2048) × (s.over.0 ≤ 4096) }
     requires lengths { Lengths heads.now heads.now weights.now starts.now set.now over_starts.now over_heads.now over_weights.now }
     requires map_room_in_bounds { at + map_room ≤ length out.old }
-    ensures { Answered line (map_at before s.n.0 s.m.0 s.over.0 starts heads weights set over_starts over_heads over_weights) a b result.good (before out) at (after out) result.at }
+    ensures { Answered line (map_of s.n.0 s.m.0 s.over.0 starts.now heads.now weights.now set.now over_starts.now over_heads.now over_weights.now) a b result.good out.old at out.new result.at }
 {
     let n = s.n.0;
     let m = s.m.0;
@@ -334,7 +333,7 @@ fn take_drive(
     requires nodes_len { (length nodes.now ≡ 64) × (count ≤ 64) }
     requires heads_len { (length heads.now ≡ 2048) × (length weights.now ≡ 2048) × (length starts.now ≡ 513) × (length set.now ≡ 512) }
     requires map_room_in_bounds { at + map_room ≤ length out.old }
-    ensures { Thinned line (take (s.n.0 + 1) (before starts)) (take s.m.0 (before heads)) (take s.m.0 (before weights)) (take s.n.0 (before set)) (take count (before nodes)) result.good (before out) at (after out) result.at }
+    ensures { Thinned line (take (s.n.0 + 1) starts.now) (take s.m.0 heads.now) (take s.m.0 weights.now) (take s.n.0 set.now) (take count nodes.now) result.good out.old at out.new result.at }
 {
     let n = s.n.0;
     let m = s.m.0;
@@ -373,7 +372,7 @@ fn begin(
     requires read_fits { ReadFits read }
     requires lengths { Lengths tails.now heads.now weights.now starts.old set.old over_starts.old over_heads.old over_weights.old }
     requires map_room_in_bounds { at + map_room ≤ length out.old }
-    ensures { Left (Judged line begun read (before nodes)) line result.state (areas (before tails) (before heads) (before weights) (after starts) (after set) (after over_starts) (after over_heads) (after over_weights)) (before out) at (after out) result.at }
+    ensures { Left (Judged line begun read nodes.now) line result.state (areas tails.now heads.now weights.now starts.new set.new over_starts.new over_heads.new over_weights.new) out.old at out.new result.at }
 {
     let Line::Head(n, m, k) = read else {
         return stop(line, out, at);
@@ -418,7 +417,7 @@ fn load(
     requires n_bound { (s.n.0 ≤ 512) × (s.m.0 ≤ 2048) × (s.count.0 < s.m.0) }
     requires lengths { Lengths tails.old heads.old weights.old starts.old set.old over_starts.old over_heads.old over_weights.old }
     requires map_room_in_bounds { at + map_room ≤ length out.old }
-    ensures { Left (Judged line (loading_in s (areas_at before tails heads weights starts set over_starts over_heads over_weights)) read (before nodes)) line result.state (areas_at after tails heads weights starts set over_starts over_heads over_weights) (before out) at (after out) result.at }
+    ensures { Left (Judged line (loading_in s (areas tails.old heads.old weights.old starts.old set.old over_starts.old over_heads.old over_weights.old)) read nodes.now) line result.state (areas tails.new heads.new weights.new starts.new set.new over_starts.new over_heads.new over_weights.new) out.old at out.new result.at }
 {
     let Line::Arc(tail, head, weight) = read else {
         return stop(line, out, at);
@@ -463,7 +462,7 @@ fn ask(
     requires n_bound { (s.n.0 ≤ 512) × (s.m.0 ≤ 2048) × (s.over.0 ≤ 4096) }
     requires lengths { Lengths heads.now heads.now weights.now starts.now set.now over_starts.now over_heads.now over_weights.now }
     requires map_room_in_bounds { at + map_room ≤ length out.old }
-    ensures { Printed (Judged line (asking (map_at before s.n.0 s.m.0 s.over.0 starts heads weights set over_starts over_heads over_weights)) read (before nodes)) (stage_if result.good (map_at before s.n.0 s.m.0 s.over.0 starts heads weights set over_starts over_heads over_weights)) (before out) at (after out) result.at }
+    ensures { Printed (Judged line (asking (map_of s.n.0 s.m.0 s.over.0 starts.now heads.now weights.now set.now over_starts.now over_heads.now over_weights.now)) read nodes.now) (stage_if result.good (map_of s.n.0 s.m.0 s.over.0 starts.now heads.now weights.now set.now over_starts.now over_heads.now over_weights.now)) out.old at out.new result.at }
 {
     if let Line::Question(a, b) = read {
         return take_question(
@@ -507,7 +506,7 @@ pub fn take_line(
     requires good { Good s }
     requires lengths { Lengths tails.old heads.old weights.old starts.old set.old over_starts.old over_heads.old over_weights.old }
     requires map_room_in_bounds { at + map_room ≤ length out.old }
-    ensures { TookLine s (areas_at before tails heads weights starts set over_starts over_heads over_weights) (before bytes) result.state (areas_at after tails heads weights starts set over_starts over_heads over_weights) (before out) at (after out) result.at }
+    ensures { TookLine s (areas tails.old heads.old weights.old starts.old set.old over_starts.old over_heads.old over_weights.old) bytes.now result.state (areas tails.new heads.new weights.new starts.new set.new over_starts.new over_heads.new over_weights.new) out.old at out.new result.at }
 {
     let line = s.lines + 1;
     if 65535 < line {
@@ -580,7 +579,7 @@ pub fn take_unended(s: State, out: &mut [u8], at: usize) -> Taken
     requires phase_value { goes s.phase ≡ true }
     requires good { Good s }
     requires at_in_bounds { at + 9 ≤ length out.old }
-    ensures { TookUnended s result.state (before out) at (after out) result.at }
+    ensures { TookUnended s result.state out.old at out.new result.at }
 {
     let lines = s.lines;
     let line = lines + 1;
@@ -595,7 +594,7 @@ pub fn take_end(s: State, out: &mut [u8], at: usize) -> Taken
     requires phase_value { goes s.phase ≡ true }
     requires good { Good s }
     requires at_in_bounds { at + 9 ≤ length out.old }
-    ensures { TookEnd s result.state (before out) at (after out) result.at }
+    ensures { TookEnd s result.state out.old at out.new result.at }
 {
     let phase = s.phase;
     let lines = s.lines;

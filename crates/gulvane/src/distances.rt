@@ -1,5 +1,4 @@
 // The two questions.
-ghost use Rattle.lent.specs.Slices.{before, after};
 ghost use Rattle.distance.specs.Calls.{pair_areas, hand_areas, HandOutcome, PairOutcome};
 ghost use Rattle.gulvane.specs.Results.{BareDistance, said_distance};
 
@@ -22,7 +21,7 @@ pub extern "C" fn gulvane_handheld(
     touched: &mut [u32],
     blocked: &mut [u8],
 ) -> GulvaneDistance
-    ensures hand_outcome { HandOutcome (before set) (before over_starts) (before over_heads) (before over_weights) s t (hand_areas before labels heap places touched blocked) (said_distance result) (hand_areas after labels heap places touched blocked) }
+    ensures hand_outcome { HandOutcome set.now over_starts.now over_heads.now over_weights.now s t (hand_areas labels.old heap.old places.old touched.old blocked.old) (said_distance result) (hand_areas labels.new heap.new places.new touched.new blocked.new) }
     ensures bare_distance { BareDistance result }
 {
     of_distance(handheld(
@@ -63,7 +62,7 @@ pub extern "C" fn gulvane_any_pair(
     touched: &mut [u32],
     blocked: &mut [u8],
 ) -> GulvaneDistance
-    ensures pair_outcome { PairOutcome (before starts) (before heads) (before weights) (before set) (before over_starts) (before over_heads) (before over_weights) s t (pair_areas before starts_back heads_back weights_back outward inward labels heap places touched blocked) (said_distance result) (pair_areas after starts_back heads_back weights_back outward inward labels heap places touched blocked) }
+    ensures pair_outcome { PairOutcome starts.now heads.now weights.now set.now over_starts.now over_heads.now over_weights.now s t (pair_areas starts_back.old heads_back.old weights_back.old outward.old inward.old labels.old heap.old places.old touched.old blocked.old) (said_distance result) (pair_areas starts_back.new heads_back.new weights_back.new outward.new inward.new labels.new heap.new places.new touched.new blocked.new) }
     ensures bare_distance { BareDistance result }
 {
     of_distance(any_pair(

@@ -1,5 +1,4 @@
 // The thinning call.
-ghost use Rattle.lent.specs.Slices.{before, after};
 ghost use Rattle.drive.specs.Calls.{Outcome};
 ghost use Rattle.gulvane.specs.Results.{BareCount, said_count};
 
@@ -17,7 +16,7 @@ pub extern "C" fn gulvane_thin(
     drive: &[u32],
     positions: &mut [u32],
 ) -> GulvaneCount
-    ensures outcome { Outcome (before starts) (before heads) (before weights) (before set) (before drive) (before positions) (said_count result) (after positions) }
+    ensures outcome { Outcome starts.now heads.now weights.now set.now drive.now positions.old (said_count result) positions.new }
     ensures bare_count { BareCount result }
 {
     of_thin(thin(starts, heads, weights, set, drive, positions))

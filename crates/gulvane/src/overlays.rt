@@ -1,5 +1,4 @@
 // The overlay call.
-ghost use Rattle.lent.specs.Slices.{before, after};
 ghost use Rattle.overlay.specs.Calls.{areas, Outcome};
 ghost use Rattle.gulvane.specs.Results.{BareCount, said_count};
 
@@ -22,7 +21,7 @@ pub extern "C" fn gulvane_overlay(
     places: &mut [u32],
     touched: &mut [u32],
 ) -> GulvaneCount
-    ensures outcome { Outcome (before starts) (before heads) (before weights) (before set) (areas before over_starts over_heads over_weights labels heap places touched) (said_count result) (areas after over_starts over_heads over_weights labels heap places touched) }
+    ensures outcome { Outcome starts.now heads.now weights.now set.now (areas over_starts.old over_heads.old over_weights.old labels.old heap.old places.old touched.old) (said_count result) (areas over_starts.new over_heads.new over_weights.new labels.new heap.new places.new touched.new) }
     ensures bare_count { BareCount result }
 {
     of_overlay(overlay(

@@ -1,5 +1,4 @@
 // The cover call.
-ghost use Rattle.lent.specs.Slices.{before, after};
 ghost use Rattle.cover.specs.Calls.{areas, Outcome};
 ghost use Rattle.gulvane.specs.Results.{BareCount, said_count};
 
@@ -24,7 +23,7 @@ pub extern "C" fn gulvane_cover(
     pieces: &mut [u32],
     sizes: &mut [u32],
 ) -> GulvaneCount
-    ensures outcome { Outcome (before starts) (before heads) (before weights) k (before order) (areas before points starts_back heads_back weights_back marks pieces sizes) (said_count result) (areas after points starts_back heads_back weights_back marks pieces sizes) }
+    ensures outcome { Outcome starts.now heads.now weights.now k order.now (areas points.old starts_back.old heads_back.old weights_back.old marks.old pieces.old sizes.old) (said_count result) (areas points.new starts_back.new heads_back.new weights_back.new marks.new pieces.new sizes.new) }
     ensures bare_count { BareCount result }
 {
     of_cover(cover(

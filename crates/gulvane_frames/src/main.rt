@@ -3,7 +3,6 @@
 #![tactic(auto)]
 
 ghost use Rattle.std.specs.Prelude.{◌≡◌, true, ◌+◌, ◌≤◌, length};
-ghost use Rattle.lent.specs.Slices.{before};
 ghost use Rattle.frames.specs.Held.{Good, Lengths, map_room};
 ghost use Rattle.frames.specs.Stages.{goes};
 ghost use Rattle.gulvane_frames.specs.workings.Runs.{Cut, Fine};
@@ -127,7 +126,7 @@ fn hand(
     requires phase_value { goes s.phase ≡ true }
     requires good { Good s }
     requires lengths { Lengths tails.old heads.old weights.old starts.old set.old over_starts.old over_heads.old over_weights.old }
-    ensures { (Good result.state) × (result.at ≤ length (before out)) }
+    ensures { (Good result.state) × (result.at ≤ length out.old) }
 {
     take_line(
         s,

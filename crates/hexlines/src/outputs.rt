@@ -1,6 +1,5 @@
 // Each line that the program prints: its bytes, and one call.
 ghost use Rattle.std.specs.Prelude.{◌+◌, ◌*◌, ◌≤◌, ◌<◌, length};
-ghost use Rattle.lent.specs.Slices.{before, after};
 ghost use Rattle.hexlines.specs.Outputs.{counts, point, arc, way, no_way, kept, refused, out_text};
 ghost use Rattle.hexlines.specs.Writers.{Wrote};
 
@@ -9,7 +8,7 @@ use crate::lines::{write_bytes, write_line, write_numbers};
 // `90`: how many nodes the cover has, and how many arcs the overlay.
 pub fn write_counts(out: &mut [u8], at: usize, nodes: usize, arcs: usize) -> usize
     requires { at + 11 ≤ length out.old }
-    ensures { Wrote (before out) at (out_text (counts nodes arcs)) (after out) result }
+    ensures { Wrote out.old at (out_text (counts nodes arcs)) out.new result }
 {
     let bytes = [
         144,
@@ -24,7 +23,7 @@ pub fn write_counts(out: &mut [u8], at: usize, nodes: usize, arcs: usize) -> usi
 // `91`: a node of the cover.
 pub fn write_point(out: &mut [u8], at: usize, node: usize) -> usize
     requires { at + 7 ≤ length out.old }
-    ensures { Wrote (before out) at (out_text (point node)) (after out) result }
+    ensures { Wrote out.old at (out_text (point node)) out.new result }
 {
     let bytes = [145, (node / 256 % 256) as u8, (node % 256) as u8];
     write_line(out, at, &bytes)
@@ -33,7 +32,7 @@ pub fn write_point(out: &mut [u8], at: usize, node: usize) -> usize
 // `92`: an arc of the overlay.
 pub fn write_arc(out: &mut [u8], at: usize, tail: usize, head: u32, weight: u32) -> usize
     requires { at + 19 ≤ length out.old }
-    ensures { Wrote (before out) at (out_text (arc tail head weight)) (after out) result }
+    ensures { Wrote out.old at (out_text (arc tail head weight)) out.new result }
 {
     let bytes = [
         146,
@@ -52,7 +51,7 @@ pub fn write_arc(out: &mut [u8], at: usize, tail: usize, head: u32, weight: u32)
 // `A0` with `01`: a distance.
 pub fn write_way(out: &mut [u8], at: usize, from: u32, to: u32, distance: u64) -> usize
     requires { at + 29 ≤ length out.old }
-    ensures { Wrote (before out) at (out_text (way from to distance)) (after out) result }
+    ensures { Wrote out.old at (out_text (way from to distance)) out.new result }
 {
     let bytes = [
         160,
@@ -76,7 +75,7 @@ pub fn write_way(out: &mut [u8], at: usize, from: u32, to: u32, distance: u64) -
 // `A0` with `00`: no way.
 pub fn write_no_way(out: &mut [u8], at: usize, from: u32, to: u32) -> usize
     requires { at + 13 ≤ length out.old }
-    ensures { Wrote (before out) at (out_text (no_way from to)) (after out) result }
+    ensures { Wrote out.old at (out_text (no_way from to)) out.new result }
 {
     let bytes = [
         160,
@@ -92,7 +91,7 @@ pub fn write_no_way(out: &mut [u8], at: usize, from: u32, to: u32) -> usize
 // `FF`: a refusal's number and line.
 pub fn write_refusal(out: &mut [u8], at: usize, number: u8, line: usize) -> usize
     requires { at + 9 ≤ length out.old }
-    ensures { Wrote (before out) at (out_text (refused number line)) (after out) result }
+    ensures { Wrote out.old at (out_text (refused number line)) out.new result }
 {
     let bytes = [255, number, (line / 256 % 256) as u8, (line % 256) as u8];
     write_line(out, at, &bytes)
@@ -101,7 +100,7 @@ pub fn write_refusal(out: &mut [u8], at: usize, number: u8, line: usize) -> usiz
 // `B0`: the positions of a drive that are kept.
 pub fn write_kept(out: &mut [u8], at: usize, positions: &[u32]) -> usize
     requires { at + 2 * length positions.now + 5 ≤ length out.old }
-    ensures { Wrote (before out) at (out_text (kept (before positions))) (after out) result }
+    ensures { Wrote out.old at (out_text (kept positions.now)) out.new result }
 {
     let first = [176, (positions.len() % 256) as u8];
     let next = write_bytes(out, at, &first);

@@ -1,7 +1,6 @@
 // The writer that holds its slice. The functions over it are few and thin, and are proved by walks
 // of their code; `write_byte`, whose parameters are plain, serves every other caller.
 ghost use Rattle.std.specs.Prelude.{◌≡◌, ◌+◌, ◌<◌, ◌/◌, ◌%◌, length, set};
-ghost use Rattle.lent.specs.Slices.{before, after};
 ghost use Rattle.hexlines.specs.Text.{digit};
 ghost use Rattle.hexlines.specs.Writers.{grown};
 
@@ -38,7 +37,7 @@ pub fn put_byte<'a>(w: Writer<'a>, b: u8) -> Writer<'a>
 // From a slice to a writer and back.
 pub fn write_byte(buf: &mut [u8], at: usize, b: u8) -> usize
     requires { at + 1 < length buf.old }
-    ensures { (result ≡ at + 2) × (after buf ≡ set (set (before buf) at (digit (b / 16))) (at + 1) (digit (b % 16))) }
+    ensures { (result ≡ at + 2) × (buf.new ≡ set (set buf.old at (digit (b / 16))) (at + 1) (digit (b % 16))) }
 {
     let w = put_byte(new(buf, at), b);
     place(w)

@@ -1,5 +1,4 @@
 // The calls, each with work of its own: what they say does not depend on it.
-ghost use Rattle.lent.specs.Slices.{before, after};
 ghost use Rattle.cover.specs.Calls.{said_of as coverSaid};
 ghost use Rattle.overlay.specs.Calls.{said_of as overlaySaid};
 ghost use Rattle.distance.specs.Calls.{said_of as distance_said};
@@ -20,7 +19,7 @@ pub fn find_cover(
     set: &mut [u8],
 ) -> CoverAnswer
     requires { CoverFits starts.now heads.now set.old }
-    ensures { CoverFound (before starts) (before heads) (before weights) k.0 (before set) (coverSaid result) (after set) }
+    ensures { CoverFound starts.now heads.now weights.now k.0 set.old (coverSaid result) set.new }
 {
     let n = starts.len() - 1;
     let e = n + 1;
@@ -60,7 +59,7 @@ pub fn find_overlay(
     over_weights: &mut [u32],
 ) -> OverlayAnswer
     requires { OverlayFits starts.now heads.now over_starts.old over_heads.old over_weights.old }
-    ensures { OverlayFound (before starts) (before heads) (before weights) (before set) (before over_starts) (before over_heads) (before over_weights) (overlaySaid result) (after over_starts) (after over_heads) (after over_weights) }
+    ensures { OverlayFound starts.now heads.now weights.now set.now over_starts.old over_heads.old over_weights.old (overlaySaid result) over_starts.new over_heads.new over_weights.new }
 {
     let n = starts.len() - 1;
     let twice = 2 * n;
@@ -96,7 +95,7 @@ pub fn find_distance(
     t: u32,
 ) -> DistanceAnswer
     requires { PairFits starts.now heads.now }
-    ensures { PairFound (before starts) (before heads) (before weights) (before set) (before over_starts) (before over_heads) (before over_weights) s t (distance_said result) }
+    ensures { PairFound starts.now heads.now weights.now set.now over_starts.now over_heads.now over_weights.now s t (distance_said result) }
 {
     let n = starts.len() - 1;
     let e = n + 1;

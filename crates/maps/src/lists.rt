@@ -1,6 +1,5 @@
 // Ascending numbers, and the starts of the arcs read.
 ghost use Rattle.std.specs.Prelude.{◌≡◌, suc, ◌≤◌, ◌<◌, length, ltb};
-ghost use Rattle.lent.specs.Slices.{before, after};
 ghost use Rattle.road.specs.Counting.{bit, under};
 ghost use Rattle.maps.specs.Lists.{belows, numbers};
 
@@ -9,7 +8,7 @@ use road::wide;
 // Fills the slice with 0, 1, 2 and so on.
 pub fn count_up(s: &mut [u32])
     requires { length s.old ≤ 4096 }
-    ensures { after s ≡ numbers 0 (length (before s)) }
+    ensures { s.new ≡ numbers 0 (length s.old) }
 {
     let mut i = 0;
     while i < s.len() {
@@ -31,7 +30,7 @@ fn below(x: usize, v: usize) -> u32
 // How many of the tails are below v.
 fn count_below(tails: &[u32], v: usize) -> u32
     requires { length tails.now ≤ 4096 }
-    ensures { result ≡ under v (before tails) }
+    ensures { result ≡ under v tails.now }
 {
     let mut count = 0;
     let mut i = 0;
@@ -45,7 +44,7 @@ fn count_below(tails: &[u32], v: usize) -> u32
 // The starts of arcs with these tails.
 pub fn write_starts(tails: &[u32], starts: &mut [u32])
     requires { length tails.now ≤ 4096 }
-    ensures { after starts ≡ belows (before tails) 0 (length (before starts)) }
+    ensures { starts.new ≡ belows tails.now 0 (length starts.old) }
 {
     let mut v = 0;
     while v < starts.len() {

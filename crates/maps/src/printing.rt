@@ -1,6 +1,5 @@
 // The lines of a map.
 ghost use Rattle.std.specs.Prelude.{suc, ◌+◌, ◌-◌, ◌*◌, ◌≤◌, ◌<◌, eqb, length, get_or};
-ghost use Rattle.lent.specs.Slices.{before, after};
 ghost use Rattle.hexlines.specs.Outputs.{text_of};
 ghost use Rattle.hexlines.specs.Writers.{Wrote};
 ghost use Rattle.maps.specs.Lists.{arc_lines, point_if, point_lines, row_lines};
@@ -13,7 +12,7 @@ use road::{Span, row};
 fn write_if(out: &mut [u8], at: usize, set: &[u8], v: usize) -> usize
     requires v_in_bounds { v < length set.now }
     requires at_in_bounds { at + 7 ≤ length out.old }
-    ensures { Wrote (before out) at (text_of (point_if (eqb (get_or (before set) v 0) 1) v)) (after out) result }
+    ensures { Wrote out.old at (text_of (point_if (eqb (get_or set.now v 0) 1) v)) out.new result }
 {
     if set[v] == 1 {
         return write_point(out, at, v);
@@ -24,7 +23,7 @@ fn write_if(out: &mut [u8], at: usize, set: &[u8], v: usize) -> usize
 // A line for each node of the set, ascending.
 pub fn write_points(out: &mut [u8], at: usize, set: &[u8]) -> usize
     requires { at + 7 * length set.now ≤ length out.old }
-    ensures { Wrote (before out) at (text_of (point_lines 0 (before set))) (after out) result }
+    ensures { Wrote out.old at (text_of (point_lines 0 set.now)) out.new result }
 {
     let mut next = at;
     let mut v = 0;
@@ -45,7 +44,7 @@ fn write_row(
     arcs: Span,
 ) -> usize
     requires { (arcs.first ≤ arcs.end) × (arcs.end ≤ length heads.now) × (arcs.end ≤ length weights.now) × (at + 19 * (arcs.end - arcs.first) ≤ length out.old) }
-    ensures { Wrote (before out) at (text_of (row_lines (before heads) (before weights) tail arcs.first (arcs.end - arcs.first))) (after out) result }
+    ensures { Wrote out.old at (text_of (row_lines heads.now weights.now tail arcs.first (arcs.end - arcs.first))) out.new result }
 {
     let mut next = at;
     let end = arcs.end;
@@ -67,7 +66,7 @@ pub fn write_arcs(
     weights: &[u32],
 ) -> usize
     requires { RowsFit starts.now heads.now weights.now n at (length out.old) }
-    ensures { Wrote (before out) at (text_of (arc_lines (before starts) (before heads) (before weights) n)) (after out) result }
+    ensures { Wrote out.old at (text_of (arc_lines starts.now heads.now weights.now n)) out.new result }
 {
     let mut next = at;
     let mut u = 0;

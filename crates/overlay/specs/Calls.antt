@@ -28,9 +28,9 @@ pub record Areas : Type 0 where
   pub touched : List ℕ
 
 -- the same, gathered from the call's slices at one moment of it
-abbrev pub areas : {A : Type 0} → (A → List ℕ) → A → A → A → A → A → A → A → Areas
-areas at starts heads weights labels heap places touched =
-    record { starts = at starts; heads = at heads; weights = at weights; labels = at labels; heap = at heap; places = at places; touched = at touched }
+abbrev pub areas : List ℕ → List ℕ → List ℕ → List ℕ → List ℕ → List ℕ → List ℕ → Areas
+areas starts heads weights labels heap places touched =
+    record { starts = starts; heads = heads; weights = weights; labels = labels; heap = heap; places = places; touched = touched }
 
 -- their lengths, each with the length asked; the two rooms are of equal length
 abbrev pub asked_lengths : ℕ → Areas → List (ℕ × ℕ)

@@ -1,6 +1,5 @@
 // The overlay call.
 ghost use Rattle.std.specs.Prelude.{◌≡◌, ◌⊎◌, ◌≤◌, ◌<◌, length, replicate};
-ghost use Rattle.lent.specs.Slices.{before, after};
 ghost use Rattle.road.specs.Faults.{lengths_fault};
 ghost use Rattle.road.specs.workings.Verdicts.{Judged, Tells};
 ghost use Rattle.overlay.specs.Calls.{areas, Outcome, asked_lengths, said_of};
@@ -24,7 +23,7 @@ fn check_lengths(
     touched: &[u32],
 ) -> Verdict
     requires { n.0 ≤ 4096 }
-    ensures { Judged (lengths_fault (asked_lengths n.0 (areas before over_starts over_heads over_weights labels heap places touched))) result }
+    ensures { Judged (lengths_fault (asked_lengths n.0 (areas over_starts.now over_heads.now over_weights.now labels.now heap.now places.now touched.now))) result }
 {
     if over_starts.len() != n.0 + 1 {
         return Verdict::Refused(Refusal::Lengths);
@@ -49,7 +48,7 @@ fn check_lengths(
 
 // Fills the work with zeros.
 fn clear_work(labels: &mut [u64], heap: &mut [u32], places: &mut [u32], touched: &mut [u32])
-    ensures { (after labels ≡ replicate (length (before labels)) 0) × (after heap ≡ replicate (length (before heap)) 0) × (after places ≡ replicate (length (before places)) 0) × (after touched ≡ replicate (length (before touched)) 0) }
+    ensures { (labels.new ≡ replicate (length labels.old) 0) × (heap.new ≡ replicate (length heap.old) 0) × (places.new ≡ replicate (length places.old) 0) × (touched.new ≡ replicate (length touched.old) 0) }
 {
     clear_labels(labels);
     clear(heap);
@@ -85,8 +84,8 @@ fn build(
     places: &mut [u32],
     touched: &mut [u32],
 ) -> OverlayAnswer
-    requires { Ready starts.now heads.now weights.now set.now (areas (λ x. x.now) over_starts over_heads over_weights labels heap places touched) }
-    ensures { Outcome (before starts) (before heads) (before weights) (before set) (areas before over_starts over_heads over_weights labels heap places touched) (said_of result) (areas after over_starts over_heads over_weights labels heap places touched) }
+    requires { Ready starts.now heads.now weights.now set.now (areas over_starts.old over_heads.old over_weights.old labels.old heap.old places.old touched.old) }
+    ensures { Outcome starts.now heads.now weights.now set.now (areas over_starts.old over_heads.old over_weights.old labels.old heap.old places.old touched.old) (said_of result) (areas over_starts.new over_heads.new over_weights.new labels.new heap.new places.new touched.new) }
 {
     clear_work(labels, heap, places, touched);
     let count = count_arcs(starts, heads, weights, set, labels, heap, places);
@@ -125,7 +124,7 @@ pub fn overlay(
     places: &mut [u32],
     touched: &mut [u32],
 ) -> OverlayAnswer
-    ensures { Outcome (before starts) (before heads) (before weights) (before set) (areas before over_starts over_heads over_weights labels heap places touched) (said_of result) (areas after over_starts over_heads over_weights labels heap places touched) }
+    ensures { Outcome starts.now heads.now weights.now set.now (areas over_starts.old over_heads.old over_weights.old labels.old heap.old places.old touched.old) (said_of result) (areas over_starts.new over_heads.new over_weights.new labels.new heap.new places.new touched.new) }
 {
     let input = check_road_and_set(starts, heads, weights, set);
     if let Verdict::Refused(r) = input {

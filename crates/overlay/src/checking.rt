@@ -1,6 +1,5 @@
 // Check 7: an overlay that is lent.
 ghost use Rattle.std.specs.Prelude.{◌≡◌, ◌+◌, ◌<◌, length};
-ghost use Rattle.lent.specs.Slices.{before};
 ghost use Rattle.road.specs.Limits.{overlay_limits};
 ghost use Rattle.road.specs.workings.Verdicts.{Judged};
 ghost use Rattle.road.specs.workings.Sound.{Sound};
@@ -14,7 +13,7 @@ fn check_row(set: &[u8], starts: &[u32], heads: &[u32], weights: &[u32], tail: u
     requires sound { Sound overlay_limits starts.now heads.now weights.now }
     requires starts_len { length starts.now ≡ length set.now + 1 }
     requires tail_in_bounds { tail < length set.now }
-    ensures { JudgesRow (before set) (before starts) (before heads) (before weights) tail result }
+    ensures { JudgesRow set.now starts.now heads.now weights.now tail result }
 {
     let arcs = row(starts, tail);
     let end = arcs.end;
@@ -33,7 +32,7 @@ fn check_row(set: &[u8], starts: &[u32], heads: &[u32], weights: &[u32], tail: u
 
 // Check 7, n being the set's length.
 pub fn check_overlay(set: &[u8], starts: &[u32], heads: &[u32], weights: &[u32]) -> Verdict
-    ensures { Judged (overlay_fault (before set) (before starts) (before heads) (before weights)) result }
+    ensures { Judged (overlay_fault set.now starts.now heads.now weights.now) result }
 {
     let Verdict::Passed = check_graph(starts, heads, weights, overlay_limits()) else {
         return Verdict::Refused(Refusal::Overlay);

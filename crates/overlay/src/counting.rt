@@ -1,7 +1,6 @@
 // How many arcs the overlay has. Nothing is written but the search's work.
 ghost use Rattle.std.specs.Prelude.{◌≡◌, ◌+◌, ◌<◌};
-ghost use Rattle.lent.specs.Slices.{before, after};
-ghost use Rattle.road.specs.Roads.{nodes_of, road_at};
+ghost use Rattle.road.specs.Roads.{nodes_of, road};
 ghost use Rattle.overlay.specs.Overlays.{Arcs, ArcsInAll};
 ghost use Rattle.overlay.specs.workings.Writing.{Searching};
 
@@ -23,9 +22,9 @@ fn count_tail(
 ) -> ArcCount
     requires searching { Searching starts.now heads.now weights.now set.now labels.old heap.old places.old }
     requires tail_bound { tail < nodes_of starts.now }
-    requires arcs { Arcs (road_at (λ x. x.now) starts heads weights) set.now tail count.0 }
-    ensures arcs_2 { Arcs (road_at before starts heads weights) (before set) (tail + 1) result.0 }
-    ensures heap_value { (after heap ≡ before heap) × (after places ≡ before places) }
+    requires arcs { Arcs (road starts.now heads.now weights.now) set.now tail count.0 }
+    ensures arcs_2 { Arcs (road starts.now heads.now weights.now) set.now (tail + 1) result.0 }
+    ensures heap_value { (heap.new ≡ heap.old) × (places.new ≡ places.old) }
 {
     if set[tail] == 0 {
         return count;
@@ -46,8 +45,8 @@ pub fn count_arcs(
     places: &mut [u32],
 ) -> ArcCount
     requires { Searching starts.now heads.now weights.now set.now labels.old heap.old places.old }
-    ensures arcs_in_all { ArcsInAll (road_at before starts heads weights) (before set) result.0 }
-    ensures heap_value { (after heap ≡ before heap) × (after places ≡ before places) }
+    ensures arcs_in_all { ArcsInAll (road starts.now heads.now weights.now) set.now result.0 }
+    ensures heap_value { (heap.new ≡ heap.old) × (places.new ≡ places.old) }
 {
     let mut count = ArcCount(0);
     let mut tail = 0;

@@ -1,6 +1,5 @@
 // One tail's row, once the search has labelled the nodes that it reaches.
 ghost use Rattle.std.specs.Prelude.{◌≡◌, ◌≤◌, ◌<◌, length};
-ghost use Rattle.lent.specs.Slices.{before, after};
 ghost use Rattle.road.specs.workings.Verdicts.{Tells};
 ghost use Rattle.overlay.specs.Numbers.{Number};
 ghost use Rattle.overlay.specs.workings.Writing.{Fits, Found, RowRoom, Writable, Wrote, WroteArc};
@@ -11,7 +10,7 @@ use road::ArcCount;
 fn is_head(set: &[u8], labels: &[u64], tail: usize, v: usize) -> bool
     requires v_in_bounds { v < length set.now }
     requires labels_len { length labels.now ≡ length set.now }
-    ensures { Tells result (Found (before set) (before labels) tail v) }
+    ensures { Tells result (Found set.now labels.now tail v) }
 {
     if set[v] != 1 {
         return false;
@@ -28,7 +27,7 @@ fn is_head(set: &[u8], labels: &[u64], tail: usize, v: usize) -> bool
 // How many arcs the row has.
 pub fn count_row(set: &[u8], labels: &[u64], tail: usize) -> ArcCount
     requires { length labels.now ≡ length set.now }
-    ensures { Number (Found (before set) (before labels) tail) (length (before set)) result.0 }
+    ensures { Number (Found set.now labels.now tail) (length set.now) result.0 }
 {
     let mut count = 0;
     let mut v = 0;
@@ -52,7 +51,7 @@ fn write_arc(
     place: ArcCount,
 ) -> ArcCount
     requires { Writable set.now labels.now tail v place.0 (length heads.old) (length weights.old) }
-    ensures { WroteArc (before set) (before labels) tail v place.0 (before heads) (before weights) (after heads) (after weights) result.0 }
+    ensures { WroteArc set.now labels.now tail v place.0 heads.old weights.old heads.new weights.new result.0 }
 {
     if is_head(set, labels, tail, v) {
         let at = place.0;
@@ -77,7 +76,7 @@ pub fn write_row(
     requires weights_len { length weights.old ≡ length heads.old }
     requires fits { Fits set.now labels.now tail }
     requires row_room { RowRoom set.now labels.now tail (length heads.old) }
-    ensures { Wrote (before set) (before labels) tail (length (before set)) (before heads) (before weights) (after heads) (after weights) result.0 }
+    ensures { Wrote set.now labels.now tail (length set.now) heads.old weights.old heads.new weights.new result.0 }
 {
     let mut count = ArcCount(0);
     let mut v = 0;

@@ -1,7 +1,6 @@
 // Writing the overlay, once its arcs are counted and have room.
 ghost use Rattle.std.specs.Prelude.{◌≡◌, ◌+◌, ◌≤◌, ◌<◌, length};
-ghost use Rattle.lent.specs.Slices.{before, after};
-ghost use Rattle.road.specs.Roads.{nodes_of, road_at};
+ghost use Rattle.road.specs.Roads.{nodes_of, road};
 ghost use Rattle.overlay.specs.Overlays.{Arcs};
 ghost use Rattle.overlay.specs.workings.Writing.{Building, Enough, Light, RowWritten, Searching};
 
@@ -24,13 +23,13 @@ fn write_tail(
     count: ArcCount,
 ) -> ArcCount
     requires searching { Searching starts.now heads.now weights.now set.now labels.old heap.old places.old }
-    requires light { Light (road_at (λ x. x.now) starts heads weights) set.now }
-    requires enough { Enough (road_at (λ x. x.now) starts heads weights) set.now (length over_heads.old) }
+    requires light { Light (road starts.now heads.now weights.now) set.now }
+    requires enough { Enough (road starts.now heads.now weights.now) set.now (length over_heads.old) }
     requires over_weights_len { length over_weights.old ≡ length over_heads.old }
     requires tail_bound { tail < nodes_of starts.now }
-    requires arcs { Arcs (road_at (λ x. x.now) starts heads weights) set.now tail count.0 }
-    ensures row_written { RowWritten (road_at before starts heads weights) (before set) tail (before over_heads) (before over_weights) (after over_heads) (after over_weights) count.0 result.0 }
-    ensures heap_value { (after heap ≡ before heap) × (after places ≡ before places) }
+    requires arcs { Arcs (road starts.now heads.now weights.now) set.now tail count.0 }
+    ensures row_written { RowWritten (road starts.now heads.now weights.now) set.now tail over_heads.old over_weights.old over_heads.new over_weights.new count.0 result.0 }
+    ensures heap_value { (heap.new ≡ heap.old) × (places.new ≡ places.old) }
 {
     if set[tail] == 0 {
         return count;
@@ -61,12 +60,12 @@ pub fn write_arcs(
     places: &mut [u32],
 ) -> ArcCount
     requires searching { Searching starts.now heads.now weights.now set.now labels.old heap.old places.old }
-    requires light { Light (road_at (λ x. x.now) starts heads weights) set.now }
-    requires enough { Enough (road_at (λ x. x.now) starts heads weights) set.now (length over_heads.old) }
+    requires light { Light (road starts.now heads.now weights.now) set.now }
+    requires enough { Enough (road starts.now heads.now weights.now) set.now (length over_heads.old) }
     requires over_starts_len { length over_starts.old ≡ nodes_of starts.now + 1 }
     requires over_weights_len { length over_weights.old ≡ length over_heads.old }
-    ensures building { Building (road_at before starts heads weights) (before set) (nodes_of (before starts)) (before over_heads) (before over_weights) (after over_starts) (after over_heads) (after over_weights) result.0 }
-    ensures heap_value { (after heap ≡ before heap) × (after places ≡ before places) }
+    ensures building { Building (road starts.now heads.now weights.now) set.now (nodes_of starts.now) over_heads.old over_weights.old over_starts.new over_heads.new over_weights.new result.0 }
+    ensures heap_value { (heap.new ≡ heap.old) × (places.new ≡ places.old) }
 {
     over_starts[0] = 0;
     let mut count = ArcCount(0);

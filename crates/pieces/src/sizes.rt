@@ -1,9 +1,8 @@
 // The sizes of the pieces that the dropped nodes make: with its neighbours' sizes alone a node may be
 // seen not to be needed. Nothing is searched here.
 ghost use Rattle.std.specs.Prelude.{◌≡◌, ◌+◌, ◌≤◌, ◌<◌, length};
-ghost use Rattle.lent.specs.Slices.{before, after};
 ghost use Rattle.road.specs.Counting.{under};
-ghost use Rattle.road.specs.Roads.{road_at};
+ghost use Rattle.road.specs.Roads.{road};
 ghost use Rattle.pieces.specs.workings.Pieces.{Below, Fits, Kept, Raised, Raises, Row, Spread, Spreads};
 ghost use Rattle.trails.specs.workings.Search.{Searchable};
 ghost use Rattle.pieces.specs.workings.Steps.{Prunable};
@@ -17,7 +16,7 @@ fn above(cover: &[u8], sizes: &[u32], p: u32, x: u32) -> u32
     requires sizes_len { length sizes.now ≡ length cover.now }
     requires p_in_bounds { p < length cover.now }
     requires x_in_bounds { x < length cover.now }
-    ensures { result < length (before cover) }
+    ensures { result < length cover.now }
 {
     if cover[wide(x)] != 0 {
         return p;
@@ -35,7 +34,7 @@ fn top(starts: &[u32], heads: &[u32], cover: &[u8], sizes: &[u32], v: usize, p: 
     requires sizes_len { length sizes.now ≡ length cover.now }
     requires v_in_bounds { v < length cover.now }
     requires p_in_bounds { p < length cover.now }
-    ensures { result < length (before cover) }
+    ensures { result < length cover.now }
 {
     let arcs = row(starts, v);
     let end = arcs.end;
@@ -52,7 +51,7 @@ fn top(starts: &[u32], heads: &[u32], cover: &[u8], sizes: &[u32], v: usize, p: 
 fn size_of(cover: &[u8], sizes: &[u32], but: u32, x: u32) -> usize
     requires sizes_len { length sizes.now ≡ length cover.now }
     requires x_in_bounds { x < length cover.now }
-    ensures { Below (before cover) (before sizes) but result x }
+    ensures { Below cover.now sizes.now but result x }
 {
     if cover[wide(x)] != 0 {
         return 0;
@@ -68,7 +67,7 @@ fn largest(starts: &[u32], heads: &[u32], cover: &[u8], sizes: &[u32], v: usize,
     requires searchable { Searchable starts.now heads.now (length cover.now) }
     requires sizes_len { length sizes.now ≡ length cover.now }
     requires v_in_bounds { v < length cover.now }
-    ensures { Row (before starts) (before heads) v (Below (before cover) (before sizes) but result) }
+    ensures { Row starts.now heads.now v (Below cover.now sizes.now but result) }
 {
     let arcs = row(starts, v);
     let end = arcs.end;
@@ -98,9 +97,9 @@ pub fn size_for(
 ) -> NodeCount
     requires prunable { Prunable starts.now heads.now weights.now starts_back.now heads_back.now weights_back.now cover.now }
     requires of_k { OfK k.0 }
-    requires kept { Kept (road_at (λ x. x.now) starts heads weights) k.0 cover.now sizes.now pieces.now }
+    requires kept { Kept (road starts.now heads.now weights.now) k.0 cover.now sizes.now pieces.now }
     requires v_in_bounds { v < length cover.now }
-    ensures { Fits (road_at before starts heads weights) k.0 (before cover) (before sizes) v result.0 }
+    ensures { Fits (road starts.now heads.now weights.now) k.0 cover.now sizes.now v result.0 }
 {
     let at = wide(v);
     let ahead = top(starts, heads, cover, sizes, at, v);
@@ -124,8 +123,8 @@ fn raise(cover: &[u8], pieces: &mut [u32], sizes: &mut [u32], count: usize, r: u
     requires sizes_len { length sizes.old ≡ length cover.now }
     requires sizes_in_bounds { count + under r sizes.old ≤ length pieces.old }
     requires y_in_bounds { y < length cover.now }
-    ensures raises { Raises r (before sizes) (before pieces) count (after sizes) (after pieces) result }
-    ensures raised { Raised (before cover) (after sizes) r y }
+    ensures raises { Raises r sizes.old pieces.old count sizes.new pieces.new result }
+    ensures raised { Raised cover.now sizes.new r y }
 {
     if cover[wide(y)] != 0 {
         return count;
@@ -153,8 +152,8 @@ fn raise_row(
     requires sizes_len { length sizes.old ≡ length cover.now }
     requires sizes_in_bounds { waiting + under r sizes.old ≤ length pieces.old }
     requires x_in_bounds { x < length cover.now }
-    ensures raises { Raises r (before sizes) (before pieces) waiting (after sizes) (after pieces) result }
-    ensures row { Row (before starts) (before heads) x (Raised (before cover) (after sizes) r) }
+    ensures raises { Raises r sizes.old pieces.old waiting sizes.new pieces.new result }
+    ensures row { Row starts.now heads.now x (Raised cover.now sizes.new r) }
 {
     let arcs = row(starts, x);
     let end = arcs.end;
@@ -182,8 +181,8 @@ pub fn spread(
     r: u32,
 )
     requires prunable { Prunable starts.now heads.now weights.now starts_back.now heads_back.now weights_back.now cover.now }
-    requires spreads { Spreads (road_at (λ x. x.now) starts heads weights) cover.now r sizes.old pieces.old 0 1 }
-    ensures { Spread (road_at before starts heads weights) (before cover) r (before sizes) (after sizes) }
+    requires spreads { Spreads (road starts.now heads.now weights.now) cover.now r sizes.old pieces.old 0 1 }
+    ensures { Spread (road starts.now heads.now weights.now) cover.now r sizes.old sizes.new }
 {
     let mut i = 0;
     let mut count = 1;

@@ -1,6 +1,5 @@
 // From the bytes of a line to the frame.
 ghost use Rattle.std.specs.Prelude.{◌≡◌, ◌+◌, ◌*◌, ◌≤◌, ◌<◌, length, get_or};
-ghost use Rattle.lent.specs.Slices.{before, after};
 ghost use Rattle.readings.specs.Frames.{Reads};
 ghost use Rattle.readings.specs.workings.Readings.{NodesRead, TellsFixed, TellsFrame, TwoAt};
 
@@ -17,7 +16,7 @@ fn byte(b: u8) -> u32
 // The number in the two bytes from place p on, high byte first.
 fn two_at(bytes: &[u8], p: usize) -> u32
     requires { p + 1 < length bytes.now }
-    ensures { TwoAt (before bytes) p result }
+    ensures { TwoAt bytes.now p result }
 {
     256 * byte(bytes[p]) + byte(bytes[p + 1])
 }
@@ -25,7 +24,7 @@ fn two_at(bytes: &[u8], p: usize) -> u32
 // `10` n(2) m(2) k(1).
 fn read_head(bytes: &[u8]) -> Line
     requires { get_or bytes.now 0 0 ≡ 16 }
-    ensures { TellsFixed (before bytes) result }
+    ensures { TellsFixed bytes.now result }
 {
     if bytes.len() != 6 {
         return Line::Wrong;
@@ -45,7 +44,7 @@ fn read_head(bytes: &[u8]) -> Line
 // `11` tail(2) head(2) weight(4).
 fn read_arc(bytes: &[u8]) -> Line
     requires { get_or bytes.now 0 0 ≡ 17 }
-    ensures { TellsFixed (before bytes) result }
+    ensures { TellsFixed bytes.now result }
 {
     if bytes.len() != 9 {
         return Line::Wrong;
@@ -60,7 +59,7 @@ fn read_arc(bytes: &[u8]) -> Line
 // `20` from(2) to(2).
 fn read_question(bytes: &[u8]) -> Line
     requires { get_or bytes.now 0 0 ≡ 32 }
-    ensures { TellsFixed (before bytes) result }
+    ensures { TellsFixed bytes.now result }
 {
     if bytes.len() != 5 {
         return Line::Wrong;
@@ -73,7 +72,7 @@ fn read_question(bytes: &[u8]) -> Line
 // The nodes of a drive, to the front of the slice.
 fn read_nodes(bytes: &[u8], count: usize, nodes: &mut [u32])
     requires { (count ≤ length nodes.old) × (length bytes.now ≡ 2 + 2 * count) }
-    ensures { NodesRead (before bytes) (before nodes) count (after nodes) }
+    ensures { NodesRead bytes.now nodes.old count nodes.new }
 {
     let mut i = 0;
     while i < count {
@@ -85,7 +84,7 @@ fn read_nodes(bytes: &[u8], count: usize, nodes: &mut [u32])
 // `30` count(1) nodes(2 each).
 fn read_drive(bytes: &[u8], nodes: &mut [u32]) -> Line
     requires { get_or bytes.now 0 0 ≡ 48 }
-    ensures { TellsFrame (before bytes) result (before nodes) (after nodes) }
+    ensures { TellsFrame bytes.now result nodes.old nodes.new }
 {
     if bytes.len() < 2 {
         return Line::Wrong;
@@ -106,7 +105,7 @@ fn read_drive(bytes: &[u8], nodes: &mut [u32]) -> Line
 
 // The frame of the bytes, by its first.
 fn read_frame(bytes: &[u8], nodes: &mut [u32]) -> Line
-    ensures { TellsFrame (before bytes) result (before nodes) (after nodes) }
+    ensures { TellsFrame bytes.now result nodes.old nodes.new }
 {
     if bytes.len() == 0 {
         return Line::Wrong;
@@ -129,7 +128,7 @@ fn read_frame(bytes: &[u8], nodes: &mut [u32]) -> Line
 
 // Reads a line without its line feed; the nodes of a drive go to the front of the slice.
 pub fn read_line(line: &[u8], nodes: &mut [u32]) -> Line
-    ensures { Reads (before line) result (before nodes) (after nodes) }
+    ensures { Reads line.now result nodes.old nodes.new }
 {
     let mut room = [0u8; 130];
     let text = read_text(line, &mut room);

@@ -1,6 +1,5 @@
 // From the characters of a line to its bytes.
 ghost use Rattle.std.specs.Prelude.{◌≡◌, length};
-ghost use Rattle.lent.specs.Slices.{before, after};
 ghost use Rattle.readings.specs.workings.Readings.{Valued, ReadsPair, ReadsText, most_bytes};
 
 use crate::{Pair, Text};
@@ -42,7 +41,7 @@ fn read_pair(high: u8, low: u8) -> Pair
 // Reads the line's bytes into the room. No frame has more than 130.
 pub fn read_text(line: &[u8], room: &mut [u8]) -> Text
     requires { length room.old ≡ most_bytes }
-    ensures { ReadsText (before line) result (after room) }
+    ensures { ReadsText line.now result room.new }
 {
     if 260 < line.len() {
         return Text::NoBytes;

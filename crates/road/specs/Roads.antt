@@ -23,7 +23,3 @@ pub record Arc (starts heads weights : List ℕ) (u v w : ℕ) : Type 0 where
 -- what the three slices mean
 abbrev pub road : List ℕ → List ℕ → List ℕ → Graph
 road starts heads weights = record { nodes = nodes_of starts; Step = Arc starts heads weights }
-
--- the same of three slices at a moment of a call
-abbrev pub road_at : {A : Type 0} → (A → List ℕ) → A → A → A → Graph
-road_at at starts heads weights = road (at starts) (at heads) (at weights)

@@ -1,6 +1,5 @@
 // Check 3: the arcs, by ascending place.
 ghost use Rattle.std.specs.Prelude.{◌<◌};
-ghost use Rattle.lent.specs.Slices.{before};
 ghost use Rattle.road.specs.Faults.{ArcFault, arc_faults, HeadFalls};
 ghost use Rattle.road.specs.workings.Verdicts.{Judged, Judges, Tells};
 ghost use Rattle.road.specs.workings.Sound.{Listed};
@@ -14,7 +13,7 @@ use crate::{Limits, Refusal, Verdict};
 // Whether the head at place p is not above that of the arc before it of the same tail.
 fn head_falls(starts: &[u32], heads: &[u32], weights: &[u32], tail: usize, p: usize) -> bool
     requires { Placed starts.now heads.now weights.now tail p }
-    ensures { Tells result (HeadFalls (before starts) (before heads) p) }
+    ensures { Tells result (HeadFalls starts.now heads.now p) }
 {
     if p <= wide(starts[tail]) {
         return false;
@@ -35,7 +34,7 @@ fn check_arc(
     p: usize,
 ) -> Verdict
     requires { Placed starts.now heads.now weights.now tail p }
-    ensures { Judges (arc_faults limits (before starts) (before heads) (before weights) p) result }
+    ensures { Judges (arc_faults limits starts.now heads.now weights.now p) result }
 {
     let head = wide(heads[p]);
     let most = limits.weight;
@@ -59,7 +58,7 @@ fn check_row(starts: &[u32], heads: &[u32], weights: &[u32], limits: Limits, tai
     requires listed { Listed starts.now heads.now weights.now }
     requires tail_bound { tail < nodes_of starts.now }
     requires clear { Clear limits starts.now heads.now weights.now tail }
-    ensures { Scanned limits (before starts) (before heads) (before weights) tail result }
+    ensures { Scanned limits starts.now heads.now weights.now tail result }
 {
     let arcs = row(starts, tail);
     let end = arcs.end;
@@ -77,7 +76,7 @@ fn check_row(starts: &[u32], heads: &[u32], weights: &[u32], limits: Limits, tai
 // Check 3, under either limits.
 pub fn check_arcs(starts: &[u32], heads: &[u32], weights: &[u32], limits: Limits) -> Verdict
     requires { Listed starts.now heads.now weights.now }
-    ensures { Judged (ArcFault limits (before starts) (before heads) (before weights)) result }
+    ensures { Judged (ArcFault limits starts.now heads.now weights.now) result }
 {
     let mut tail = 0;
     while tail < starts.len() - 1 {

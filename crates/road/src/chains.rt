@@ -1,5 +1,4 @@
 // The checks in their order, each chain for any input.
-ghost use Rattle.lent.specs.Slices.{before};
 ghost use Rattle.road.specs.Chains.{cover_faults, road_and_set_faults, lone_set_faults, drive_faults};
 ghost use Rattle.road.specs.Faults.{graph_faults};
 ghost use Rattle.road.specs.workings.Verdicts.{Judges};
@@ -16,7 +15,7 @@ use crate::{Limits, NodeCount, Verdict};
 
 // Checks 1, 2 and 3, under either limits.
 pub fn check_graph(starts: &[u32], heads: &[u32], weights: &[u32], limits: Limits) -> Verdict
-    ensures { Judges (graph_faults limits (before starts) (before heads) (before weights)) result }
+    ensures { Judges (graph_faults limits starts.now heads.now weights.now) result }
 {
     let sizes = check_sizes(starts, heads, weights, limits);
     let Verdict::Passed = sizes else {
@@ -37,7 +36,7 @@ pub fn check_cover_input(
     k: NodeCount,
     order: &[u32],
 ) -> Verdict
-    ensures { Judges (cover_faults (before starts) (before heads) (before weights) k.0 (before order)) result }
+    ensures { Judges (cover_faults starts.now heads.now weights.now k.0 order.now) result }
 {
     let graph = check_graph(starts, heads, weights, road_limits());
     let Verdict::Passed = graph else {
@@ -52,7 +51,7 @@ pub fn check_cover_input(
 
 // What the overlay call and the any-pair question check first: 1 2 3 6.
 pub fn check_road_and_set(starts: &[u32], heads: &[u32], weights: &[u32], set: &[u8]) -> Verdict
-    ensures { Judges (road_and_set_faults (before starts) (before heads) (before weights) (before set)) result }
+    ensures { Judges (road_and_set_faults starts.now heads.now weights.now set.now) result }
 {
     let graph = check_graph(starts, heads, weights, road_limits());
     let Verdict::Passed = graph else {
@@ -63,7 +62,7 @@ pub fn check_road_and_set(starts: &[u32], heads: &[u32], weights: &[u32], set: &
 
 // What the handheld question checks first: 1 6, n being the set's length.
 pub fn check_lone_set(set: &[u8]) -> Verdict
-    ensures { Judges (lone_set_faults (before set)) result }
+    ensures { Judges (lone_set_faults set.now) result }
 {
     let size = check_set_size(set);
     let Verdict::Passed = size else {
@@ -80,7 +79,7 @@ pub fn check_drive_input(
     set: &[u8],
     drive: &[u32],
 ) -> Verdict
-    ensures { Judges (drive_faults (before starts) (before heads) (before weights) (before set) (before drive)) result }
+    ensures { Judges (drive_faults starts.now heads.now weights.now set.now drive.now) result }
 {
     let first = check_road_and_set(starts, heads, weights, set);
     let Verdict::Passed = first else {

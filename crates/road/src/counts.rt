@@ -1,6 +1,5 @@
 // Counts of nodes and of arcs, and a refusal's number.
 ghost use Rattle.std.specs.Prelude.{◌≡◌};
-ghost use Rattle.lent.specs.Slices.{before};
 ghost use Rattle.paths.specs.Graphs.{arcs_of};
 ghost use Rattle.road.specs.Refusals.{number_of};
 ghost use Rattle.road.specs.Roads.{nodes_of};
@@ -16,7 +15,7 @@ pub fn wide(x: u32) -> usize
 
 // The number of nodes of the graph with these starts.
 pub fn node_count(starts: &[u32]) -> NodeCount
-    ensures { result.0 ≡ nodes_of (before starts) }
+    ensures { result.0 ≡ nodes_of starts.now }
 {
     if starts.len() == 0 {
         return NodeCount(0);

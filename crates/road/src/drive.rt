@@ -1,6 +1,5 @@
 // Check 10: the drive.
 ghost use Rattle.std.specs.Prelude.{◌<◌, length};
-ghost use Rattle.lent.specs.Slices.{before};
 ghost use Rattle.road.specs.Drives.{drive_fault, Joined};
 ghost use Rattle.road.specs.workings.Scans.{Entered, JudgesPosition};
 ghost use Rattle.road.specs.workings.Verdicts.{Judged, Tells};
@@ -16,7 +15,7 @@ use crate::{Refusal, Verdict};
 pub fn joined(starts: &[u32], heads: &[u32], u: usize, v: u32) -> bool
     requires sorted { Sorted starts.now heads.now }
     requires u_bound { u < nodes_of starts.now }
-    ensures { Tells result (Joined (before starts) (before heads) u v) }
+    ensures { Tells result (Joined starts.now heads.now u v) }
 {
     let arcs = row(starts, u);
     let mut low = arcs.first;
@@ -40,7 +39,7 @@ fn check_position(starts: &[u32], heads: &[u32], drive: &[u32], i: usize) -> Ver
     requires sorted { Sorted starts.now heads.now }
     requires i_in_bounds { i < length drive.now }
     requires entered { Entered starts.now heads.now drive.now i }
-    ensures { JudgesPosition (before starts) (before heads) (before drive) i result }
+    ensures { JudgesPosition starts.now heads.now drive.now i result }
 {
     if starts.len() - 1 <= wide(drive[i]) {
         return Verdict::Refused(Refusal::Drive);
@@ -57,7 +56,7 @@ fn check_position(starts: &[u32], heads: &[u32], drive: &[u32], i: usize) -> Ver
 // Check 10.
 pub fn check_drive(starts: &[u32], heads: &[u32], drive: &[u32]) -> Verdict
     requires { Sorted starts.now heads.now }
-    ensures { Judged (drive_fault (before starts) (before heads) (before drive)) result }
+    ensures { Judged (drive_fault starts.now heads.now drive.now) result }
 {
     if drive.len() == 0 {
         return Verdict::Refused(Refusal::Drive);

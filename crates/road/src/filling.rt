@@ -1,10 +1,9 @@
 // Filling a slice with one value.
 ghost use Rattle.std.specs.Prelude.{◌≡◌, length, replicate};
-ghost use Rattle.lent.specs.Slices.{before, after};
 
 // Fills a slice with zeros.
 pub fn clear(s: &mut [u32])
-    ensures { after s ≡ replicate (length (before s)) 0 }
+    ensures { s.new ≡ replicate (length s.old) 0 }
 {
     let mut i = 0;
     while i < s.len() {
@@ -15,7 +14,7 @@ pub fn clear(s: &mut [u32])
 
 // Fills a slice of bytes with one value.
 pub fn fill_bytes(s: &mut [u8], value: u8)
-    ensures { after s ≡ replicate (length (before s)) value }
+    ensures { s.new ≡ replicate (length s.old) value }
 {
     let mut i = 0;
     while i < s.len() {

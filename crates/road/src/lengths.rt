@@ -1,5 +1,4 @@
 // Checks 1 and 11: lengths.
-ghost use Rattle.lent.specs.Slices.{before};
 ghost use Rattle.road.specs.Faults.{sizes, set_size, length_fault};
 ghost use Rattle.road.specs.workings.Verdicts.{Judged};
 
@@ -7,7 +6,7 @@ use crate::{Limits, Refusal, Verdict};
 
 // Check 1, of a graph's three slices.
 pub fn check_sizes(starts: &[u32], heads: &[u32], weights: &[u32], limits: Limits) -> Verdict
-    ensures { Judged (sizes limits (before starts) (before heads) (before weights)) result }
+    ensures { Judged (sizes limits starts.now heads.now weights.now) result }
 {
     let most = limits.arcs.0;
     if starts.len() < 2 {
@@ -27,7 +26,7 @@ pub fn check_sizes(starts: &[u32], heads: &[u32], weights: &[u32], limits: Limit
 
 // Check 1, of a set that is lent without a road graph.
 pub fn check_set_size(set: &[u8]) -> Verdict
-    ensures { Judged (set_size (before set)) result }
+    ensures { Judged (set_size set.now) result }
 {
     if set.len() == 0 {
         return Verdict::Refused(Refusal::Sizes);

@@ -1,6 +1,5 @@
 // Check 5: the order.
 ghost use Rattle.std.specs.Prelude.{◌≤◌};
-ghost use Rattle.lent.specs.Slices.{before};
 ghost use Rattle.road.specs.Faults.{order_fault};
 ghost use Rattle.road.specs.Limits.{most_nodes};
 ghost use Rattle.road.specs.workings.Verdicts.{Judged};
@@ -11,7 +10,7 @@ use crate::{NodeCount, Refusal, Verdict};
 // Each node is marked in an array of our own, since a check changes no lent slice.
 pub fn check_order(n: NodeCount, order: &[u32]) -> Verdict
     requires { n.0 ≤ most_nodes }
-    ensures { Judged (order_fault n.0 (before order)) result }
+    ensures { Judged (order_fault n.0 order.now) result }
 {
     if order.len() != n.0 {
         return Verdict::Refused(Refusal::Order);

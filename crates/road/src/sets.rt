@@ -1,6 +1,5 @@
 // Checks 6, 8 and 9: the set and a question's two nodes.
 ghost use Rattle.std.specs.Prelude.{◌<◌, length};
-ghost use Rattle.lent.specs.Slices.{before};
 ghost use Rattle.road.specs.Faults.{set_fault, node_fault, outside_fault};
 ghost use Rattle.road.specs.workings.Verdicts.{Judged};
 
@@ -9,7 +8,7 @@ use crate::{NodeCount, Refusal, Verdict};
 
 // Check 6.
 pub fn check_set(n: NodeCount, set: &[u8]) -> Verdict
-    ensures { Judged (set_fault n.0 (before set)) result }
+    ensures { Judged (set_fault n.0 set.now) result }
 {
     if set.len() != n.0 {
         return Verdict::Refused(Refusal::Set);
@@ -41,7 +40,7 @@ pub fn check_nodes(n: NodeCount, from: u32, to: u32) -> Verdict
 pub fn check_in_set(set: &[u8], from: u32, to: u32) -> Verdict
     requires from_in_bounds { from < length set.now }
     requires to_in_bounds { to < length set.now }
-    ensures { Judged (outside_fault (before set) from to) result }
+    ensures { Judged (outside_fault set.now from to) result }
 {
     if set[wide(from)] != 1 {
         return Verdict::Refused(Refusal::Outside);

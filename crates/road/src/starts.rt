@@ -1,6 +1,5 @@
 // Check 2: the starts.
 ghost use Rattle.std.specs.Prelude.{◌≤◌, length};
-ghost use Rattle.lent.specs.Slices.{before};
 ghost use Rattle.road.specs.Faults.{starts_fault};
 ghost use Rattle.road.specs.workings.Verdicts.{Judged};
 
@@ -9,7 +8,7 @@ use crate::{Refusal, Verdict};
 
 pub fn check_starts(starts: &[u32], heads: &[u32]) -> Verdict
     requires { 2 ≤ length starts.now }
-    ensures { Judged (starts_fault (before starts) (before heads)) result }
+    ensures { Judged (starts_fault starts.now heads.now) result }
 {
     if starts[0] != 0 {
         return Verdict::Refused(Refusal::Starts);

@@ -1,7 +1,6 @@
 // The search. A node whose label falls waits again; when nothing waits the labels are least.
 ghost use Rattle.std.specs.Prelude.{◌≡◌, ◌+◌, ◌≤◌, ◌<◌, length, get_or, replicate};
-ghost use Rattle.lent.specs.Slices.{before, after};
-ghost use Rattle.road.specs.Roads.{nodes_of, road_at};
+ghost use Rattle.road.specs.Roads.{nodes_of, road};
 ghost use Rattle.search.specs.workings.Queue.{Heap};
 ghost use Rattle.search.specs.workings.Rows.{Asks, Row};
 ghost use Rattle.search.specs.workings.States.{All, Going, Leaves, Offered, Upto, mass};
@@ -28,8 +27,8 @@ fn offer(
     requires heap { Heap heap.old places.old count }
     requires labels_len { length labels.old ≡ length places.old }
     requires v_in_bounds { v < length places.old }
-    ensures heap_2 { Heap (after heap) (after places) result }
-    ensures offered { Offered v x (before labels) (before places) count (after labels) (after places) result }
+    ensures heap_2 { Heap heap.new places.new result }
+    ensures offered { Offered v x labels.old places.old count labels.new places.new result }
 {
     if sooner(x, labels[v]) {
         labels[v] = x;
@@ -60,8 +59,8 @@ fn relax(
     requires going { Going starts.now heads.now weights.now blocked.now source labels.old heap.old places.old waiting (Upto u (get_or starts.now u 0)) }
     requires leaves { Leaves blocked.now source labels.old places.old u }
     requires u_bound { u < nodes_of starts.now }
-    ensures going_2 { Going (before starts) (before heads) (before weights) (before blocked) source (after labels) (after heap) (after places) result All }
-    ensures result_bound { mass (after labels) + result ≤ mass (before labels) + waiting }
+    ensures going_2 { Going starts.now heads.now weights.now blocked.now source labels.new heap.new places.new result All }
+    ensures result_bound { mass labels.new + result ≤ mass labels.old + waiting }
 {
     let base = labels[u];
     let arcs = row(starts, u);
@@ -92,8 +91,8 @@ pub fn take_one(
     requires going { Going starts.now heads.now weights.now blocked.now source labels.old heap.old places.old waiting All }
     requires blocked_len { length blocked.now ≡ nodes_of starts.now }
     requires le_waiting { 1 ≤ waiting }
-    ensures going_2 { Going (before starts) (before heads) (before weights) (before blocked) source (after labels) (after heap) (after places) result All }
-    ensures result_bound { mass (after labels) + result < mass (before labels) + waiting }
+    ensures going_2 { Going starts.now heads.now weights.now blocked.now source labels.new heap.new places.new result All }
+    ensures result_bound { mass labels.new + result < mass labels.old + waiting }
 {
     let u = take(heap, places, labels, waiting);
     if u == source {
@@ -141,7 +140,7 @@ fn run(
 )
     requires going { Going starts.now heads.now weights.now blocked.now source labels.old heap.old places.old waiting All }
     requires blocked_len { length blocked.now ≡ nodes_of starts.now }
-    ensures { Going (before starts) (before heads) (before weights) (before blocked) source (after labels) (after heap) (after places) 0 All }
+    ensures { Going starts.now heads.now weights.now blocked.now source labels.new heap.new places.new 0 All }
 {
     let mut count = waiting;
     while 0 < count {
@@ -153,7 +152,7 @@ fn run(
 
 // Fills labels with zeros.
 pub fn clear_labels(s: &mut [u64])
-    ensures { after s ≡ replicate (length (before s)) 0 }
+    ensures { s.new ≡ replicate (length s.old) 0 }
 {
     let mut i = 0;
     while i < s.len() {
@@ -174,7 +173,7 @@ pub fn begin(
     places: &mut [u32],
 )
     requires { Asks starts.now heads.now weights.now blocked.now source labels.old heap.old places.old }
-    ensures { Going (before starts) (before heads) (before weights) (before blocked) source (after labels) (after heap) (after places) 1 All }
+    ensures { Going starts.now heads.now weights.now blocked.now source labels.new heap.new places.new 1 All }
 {
     clear_labels(labels);
     labels[source] = 1;
@@ -195,8 +194,8 @@ pub fn search(
     places: &mut [u32],
 )
     requires { Asks starts.now heads.now weights.now blocked.now source labels.old heap.old places.old }
-    ensures row { Row (road_at before starts heads weights) (before blocked) source (after labels) }
-    ensures heap_value { (after heap ≡ before heap) × (after places ≡ before places) }
+    ensures row { Row (road starts.now heads.now weights.now) blocked.now source labels.new }
+    ensures heap_value { (heap.new ≡ heap.old) × (places.new ≡ places.old) }
 {
     begin(
         starts, heads, weights, blocked, source, labels, heap, places,

@@ -2,7 +2,6 @@
 // turned round, and then at its outward end. Each call of itself has one node fewer missing. A path
 // that is full goes no further: with k of at most 32 that is never met.
 ghost use Rattle.std.specs.Prelude.{◌+◌, ◌≤◌, ◌<◌, length};
-ghost use Rattle.lent.specs.Slices.{before};
 ghost use Rattle.road.specs.workings.Verdicts.{Tells};
 ghost use Rattle.trails.specs.workings.Search.{FreeNode, Inward, Larger, Longest, Outward, Searchable, Within};
 ghost use Rattle.trails.specs.Trails.{on_trail};
@@ -14,7 +13,7 @@ use road::{NodeCount, row, wide};
 fn is_free(cover: &[u8], t: Trail, v: u32) -> bool
     requires v_in_bounds { v < length cover.now }
     requires count_bound { t.count.0 ≤ 32 }
-    ensures { Tells result (FreeNode (before cover) (on_trail t) v) }
+    ensures { Tells result (FreeNode cover.now (on_trail t) v) }
 {
     if cover[wide(v)] != 0 {
         return false;
@@ -37,7 +36,7 @@ fn outward(
     requires searchable { Searchable starts.now heads.now (length cover.now) }
     requires last_in_bounds { last < length cover.now }
     requires missing_bound { t.count.0 + missing.0 ≤ 32 }
-    ensures { Tells result (Outward (before starts) (before heads) (before cover) (on_trail t) last missing.0) }
+    ensures { Tells result (Outward starts.now heads.now cover.now (on_trail t) last missing.0) }
 {
     if missing.0 == 0 {
         return true;
@@ -90,7 +89,7 @@ pub fn longest(
     requires searchable { Searchable starts.now heads.now (length cover.now) }
     requires last_in_bounds { last < length cover.now }
     requires most_bound { t.count.0 + most.0 ≤ 32 }
-    ensures { Longest (before starts) (before heads) (before cover) (on_trail t) last most.0 result.0 }
+    ensures { Longest starts.now heads.now cover.now (on_trail t) last most.0 result.0 }
 {
     if most.0 == 0 {
         return NodeCount(0);
@@ -139,7 +138,7 @@ pub fn inward(
     requires last_in_bounds { last < length cover.now }
     requires missing_bound { t.count.0 + missing.0 ≤ 32 }
     requires within { Within starts.now heads.now cover.now (on_trail t) last missing.0 reach.0 }
-    ensures { Tells result (Inward (before starts) (before heads) (before starts_back) (before heads_back) (before cover) last (on_trail t) first missing.0) }
+    ensures { Tells result (Inward starts.now heads.now starts_back.now heads_back.now cover.now last (on_trail t) first missing.0) }
 {
     if missing.0 == 0 {
         return true;
