@@ -23,11 +23,13 @@ first_one (F ∷ Fs) r s o (inl f) (inl g) = o.0.one r s f g
 first_one (F ∷ Fs) r s o (inl f) (inr g) = absurd (g.0 r f)
 first_one (F ∷ Fs) r s o (inr f) (inl g) = absurd (f.0 s g)
 first_one (F ∷ Fs) r s o (inr f) (inr g) = first_one Fs r s o.1 f.1 g.1
+first_one [] r s o x3 _ = elim x3 [ ]
 
 -- where one is first, not none holds
 pub first_not_none : (Fs : List Fault) (r : Refusal) → First Fs r → None Fs → ⊥
 first_not_none (F ∷ Fs) r (inl f) n = n.0 r f
 first_not_none (F ∷ Fs) r (inr f) n = first_not_none Fs r f.1 n.1
+first_not_none [] r x'' n = elim x'' [ ]
 
 -- and where none is first, none holds
 pub none_if_no_first : (Fs : List Fault) → ((r : Refusal) → First Fs r → ⊥) → None Fs
@@ -95,6 +97,7 @@ refusal_no_answer r values e = number_some r (ap (λ (x : Said). x.number) e)
 pub first_at : (Fs : List Fault) (i : ℕ) (r : Refusal) → NoneTo Fs i → HoldsAt Fs i r → First Fs r
 first_at (F ∷ Fs) zero r n h = inl h
 first_at (F ∷ Fs) (suc i) r n h = inr (n.0, first_at Fs i r n.1 h)
+first_at [] i r n h = elim h [ ]
 
 pub of_number : {r : Refusal} {P : Type 0} → (s : Refusal) → Of r P s → number_of s ≡ number_of r
 of_number s f = ap number_of f.is
@@ -154,6 +157,7 @@ module _ {r : Refusal} {P : Type 0} where
 pub first_early : (Fs Gs : List Fault) (r : Refusal) → First Fs r → First (Fs ++ Gs) r
 first_early (F ∷ Fs) Gs r (inl f) = inl f
 first_early (F ∷ Fs) Gs r (inr f) = inr (f.0, first_early Fs Gs r f.1)
+first_early [] Gs r x' = elim x' [ ]
 
 pub first_late : (Fs Gs : List Fault) (r : Refusal) → None Fs → First Gs r → First (Fs ++ Gs) r
 first_late [] Gs r n f = f
