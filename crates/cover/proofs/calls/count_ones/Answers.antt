@@ -1,6 +1,5 @@
 use Rattle.road.proofs.Counting.{times-met, times-missed}
 use native.Mathlib.Omega.{arith}
-use Prim.Native.Nat.{◌-◌}
 use Rattle.cover.proofs.calls.count_ones.Goals as goal
 use Rattle.cover.proofs.calls.count_ones.Goals.{else-s-i-eq1, then-s-i-eq1}
 

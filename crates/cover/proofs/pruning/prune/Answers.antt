@@ -1,4 +1,3 @@
-use Prim.Native.Nat.{◌-◌}
 use Rattle.rule.proofs.Rules.{going_on, going_end}
 use Rattle.cover.proofs.pruning.prune.Goals as goal
 

@@ -1,6 +1,5 @@
 use Rattle.road.proofs.Counting.{times-met, times-missed}
 use native.Mathlib.Omega.{arith}
-use Prim.Native.Nat.{◌-◌}
 use Rattle.cover.proofs.pruning.too_few.Goals as goal
 use Rattle.cover.proofs.pruning.too_few.Goals.{else-cover-v-eq0, then-cover-v-eq0}
 

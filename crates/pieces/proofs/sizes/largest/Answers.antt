@@ -1,5 +1,4 @@
 use Rattle.pieces.proofs.Rows.{row_listed}
-use Prim.Native.Nat.{◌-◌}
 use Rattle.pieces.proofs.sizes.largest.Goals as goal
 
 pub bounds-heads-i : goal.bounds-heads-i

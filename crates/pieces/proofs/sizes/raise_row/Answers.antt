@@ -1,7 +1,6 @@
 use Rattle.pieces.proofs.Spreading.{room_after, raises-then, raises-grown, raised-still}
 use Rattle.pieces.proofs.Rows.{row-none, row_listed, row_more}
 use Rattle.pieces.specs.workings.Pieces.{none}
-use Prim.Native.Nat.{◌-◌}
 use Rattle.pieces.proofs.sizes.raise_row.Goals as goal
 
 pub loop-i-init : goal.loop-i-init

@@ -1,7 +1,6 @@
 use mathlib.Core.Path.{refl}
 use Rattle.pieces.proofs.Bounding.{two-fit}
 use Rattle.pieces.proofs.Ready.{search-back}
-use Prim.Native.Nat.{◌-◌}
 use native.Mathlib.Omega.{arith}
 use Rattle.pieces.proofs.sizes.size_for.Goals as goal
 

@@ -1,6 +1,5 @@
 use Rattle.pieces.proofs.Spreading.{spreading-more, spreading-end, room_after}
 use Rattle.pieces.proofs.Ready.{search-back}
-use Prim.Native.Nat.{◌-◌}
 use Rattle.pieces.proofs.sizes.spread.Goals as goal
 
 pub raise_row-count-requires-in-loop-i-clause-searchable : goal.raise_row-count-requires-in-loop-i-clause-searchable
