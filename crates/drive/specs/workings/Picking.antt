@@ -1,5 +1,5 @@
 -- The pass over a drive.
-use Rattle.std.specs.Prelude.{◌≡◌, List, ◌++◌, ℕ, ◌+◌, ◌≤◌, ◌<◌, length, get_or, drop}
+use Rattle.std.specs.Prelude.{◌≡◌, List, ◌++◌, ℕ, ◌≤◌, ◌<◌, length, get_or, drop}
 use Rattle.road.specs.Limits.{most_drive}
 use Rattle.drive.specs.Thinning.{ListOf, Kept}
 

@@ -5,7 +5,7 @@ pub returns-in-Refused : goal.returns-in-Refused
 returns-in-Refused c = refused-early _ _ _ _ _ _ _ _ c.check_drive_input-input.ensures c.in-Refused.is
 
 pub returns-in-Refused-room : goal.returns-in-Refused-room
-returns-in-Refused-room c = refused-late _ _ _ _ _ _ _ c.check_drive_input-input.ensures c.in_default.is _ c.check_length-room.ensures _ c.room-1.is
+returns-in-Refused-room c = refused-late _ _ _ _ _ _ _ c.check_drive_input-input.ensures c.in_default.is _ c.check_length-room.ensures _ c.in-Refused-room.is
 
 pub pick-count-requires : goal.pick-count-requires
 pick-count-requires c = fits _ _ _ _ _ _ _ c.check_drive_input-input.ensures c.in_default.is _ c.check_length-room.ensures c.in_default-room.is

@@ -1,5 +1,4 @@
 use Rattle.drive.proofs.Picks.{picking-same, picking-missed, picking-met, picking-room}
-use Prim.Native.Nat.{◌-◌}
 use Rattle.drive.proofs.picking.pick.Goals as goal
 use Rattle.drive.proofs.picking.pick.Goals.{else-is_kept, then-is_kept}
 
