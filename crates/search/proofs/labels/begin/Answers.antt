@@ -1,5 +1,4 @@
 use Rattle.search.proofs.States.{queue-empty, going-first}
-use Prim.Native.Nat.{◌-◌}
 use Rattle.search.proofs.labels.begin.Goals as goal
 
 pub add-requires-clause-heap : goal.add-requires-clause-heap

@@ -1,5 +1,4 @@
 use Rattle.search.proofs.Heaps.{held_place}
-use Prim.Native.Nat.{◌-◌}
 use Rattle.search.proofs.labels.offer.Goals as goal
 
 pub up-requires-clause-from_lt_count : goal.up-requires-clause-from_lt_count

@@ -1,7 +1,7 @@
 use Rattle.search.proofs.States.{relax-more, relax-end, row_listed, row-weighed}
 use mathlib.Core.Path.{ap}
 use native.Mathlib.Omega.{arith}
-use Prim.Native.Nat.{ℕ, ◌+◌, ◌-◌}
+use Prim.Native.Nat.{ℕ, ◌+◌}
 use Rattle.search.specs.workings.Rows.{label_at}
 use Rattle.search.proofs.labels.relax.Goals as goal
 

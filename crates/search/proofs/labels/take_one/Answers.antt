@@ -1,6 +1,5 @@
 use Rattle.search.proofs.States.{going-taken, going-shut}
 use mathlib.Core.Logic.{⊎_elim}
-use Prim.Native.Nat.{◌-◌}
 use Rattle.search.proofs.labels.take_one.Goals as goal
 
 pub relax-requires-clause-going : goal.relax-requires-clause-going
