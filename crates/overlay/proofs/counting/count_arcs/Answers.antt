@@ -1,4 +1,3 @@
-use Prim.Native.Nat.{◌-◌}
 use Rattle.overlay.specs.Overlays.{Arcs}
 use native.Mathlib.Omega.{arith}
 use mathlib.Core.Path.{refl}

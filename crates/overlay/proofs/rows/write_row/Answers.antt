@@ -1,4 +1,3 @@
-use Prim.Native.Nat.{◌-◌}
 use native.Mathlib.Omega.{arith}
 use Rattle.overlay.proofs.Locals.{room-left}
 use Rattle.overlay.proofs.Written.{wrote_none, wrote_more}
