@@ -34,6 +34,7 @@ module _ (ps qs : List (ℕ × ℕ)) where
   unlike-left : (l : List (ℕ × ℕ)) → Unlike l → Unlike (l ++ qs)
   unlike-left (p ∷ l) (inl n) = inl n
   unlike-left (p ∷ l) (inr u) = inr (unlike-left l u)
+  unlike-left [] x' = elim x' [ ]
 
   unlike-right : (l : List (ℕ × ℕ)) → Unlike qs → Unlike (l ++ qs)
   unlike-right [] u = u
