@@ -12,7 +12,7 @@ pub through_exits-requires-clause-small : goal.through_exits-requires-clause-sma
 through_exits-requires-clause-small c = row_small _ _ _ _ _ _ c.requires.searchable.sound c.search.ensures.row
 
 pub through_exits-requires-clause-modest : goal.through_exits-requires-clause-modest
-through_exits-requires-clause-modest c = omega (arith, gate-modest _ _ _ _ _ c.gate-first.ensures c.requires.rows.outward_small, ap label_of c.in-Passed.is)
+through_exits-requires-clause-modest c = omega (arith, gate-modest _ _ _ _ _ c.gate-first.ensures c.requires.rows.outward_small, ap label_of c.in-Way.is)
 
 pub returns-clause-told : goal.returns-clause-told
 returns-clause-told c = through-exits _ _ _ _ _ _ _ _ _ c.gate-first.ensures (λ x h. row_any _ _ _ _ _ _ _ c.requires.searchable _ _ c.search.ensures.row x (omega (arith, h, c.requires.rows.bytes))) _ c.through_exits.ensures

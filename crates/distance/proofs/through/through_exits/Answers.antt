@@ -1,4 +1,3 @@
-use Prim.Native.Nat.{◌-◌}
 use native.Mathlib.Omega.{arith}
 use Rattle.distance.proofs.Telling.{exits-more}
 use Rattle.distance.proofs.through.through_exits.Goals as goal
