@@ -109,7 +109,8 @@ pub fn take_one(
             waiting - 1,
         );
     }
-    if blocked[u] == 0 {
+    let free = blocked[u] == 0;
+    if free {
         return relax(
             starts,
             heads,
