@@ -31,6 +31,8 @@ module _ {G : Graph} (chosen : List ℕ) where
   behind (step x stop) i (inl e) = inr e
   behind (step x (step y r)) i (inl e) = inl (subst (Outside chosen) (sym e) i.0)
   behind (step x (step y r)) i (inr m) = behind (step y r) i.1 m
+  behind {v = v} (stop {a = a}) i x11 = elim x11 [ ]
+  behind {v = v} (step {a = a} {w = w} x stop) i (inr m) = elim m [ ]
 
   inside-by : {s t w : ℕ} {l : List ℕ} → Along G s l t w → Different l → ((v : ℕ) → Mem v l → InSet chosen v → v ≡ t) → Inside (Outside chosen) l
   inside-by stop d o = tt

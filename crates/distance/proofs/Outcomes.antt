@@ -2,7 +2,7 @@
 use mathlib.Core.Path.{◌≡◌, refl, sym, ap, subst₂, ◌∙◌}
 use mathlib.Core.Logic.{◌⊎◌, inl, inr, ⊎_elim}
 use mathlib.Core.List.{List, [], ◌∷◌, ◌++◌}
-use Prim.Native.Nat.{ℕ, zero, suc, ◌+◌, ◌-◌, ◌*◌, ◌≤◌}
+use Prim.Native.Nat.{ℕ, zero, suc, ◌+◌, ◌*◌, ◌≤◌}
 use native.Mathlib.Omega.{arith}
 use lib.ListN.{length}
 use Rattle.paths.specs.Least.{Told}
@@ -34,6 +34,7 @@ module _ (ps qs : List (ℕ × ℕ)) where
   unlike-left : (l : List (ℕ × ℕ)) → Unlike l → Unlike (l ++ qs)
   unlike-left (p ∷ l) (inl n) = inl n
   unlike-left (p ∷ l) (inr u) = inr (unlike-left l u)
+  unlike-left [] x' = elim x' [ ]
 
   unlike-right : (l : List (ℕ × ℕ)) → Unlike qs → Unlike (l ++ qs)
   unlike-right [] u = u

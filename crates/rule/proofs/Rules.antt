@@ -121,6 +121,7 @@ module _ {Counts : List ℕ → Type 0} where
   left_alone (keep n p) x (inr h) i = left_alone p x h i
   left_alone (drop {v = v} {cover = cover} n p) x (inl e) i = absurd (omega (arith, i, stays p x (dropped_now cover v x (inl e))))
   left_alone (drop n p) x (inr h) i = left_alone p x h i
+  left_alone (done {cover = cover}) x x10 i = elim x10 [ ]
 
 -- every path that counts has a node below n on it
 pub record Nodes (Counts : List ℕ → Type 0) (n : ℕ) : Type 0 where
@@ -164,6 +165,7 @@ all_dropped : {Counts : List ℕ → Type 0} {order cover left : List ℕ} → (
 all_dropped f (keep n p) v h = absurd (f n.path n.counts)
 all_dropped f (drop {v = v} {cover = cover} n p) x (inl e) = stays p x (dropped_now cover v x (inl e))
 all_dropped f (drop n p) x (inr h) = all_dropped f p x h
+all_dropped {Counts = Counts} f (done {cover = cover}) v h = elim h [ ]
 
 pub all_drop : {Counts : List ℕ → Type 0} {n : ℕ} {order cover : List ℕ} → ((l : List ℕ) → Counts l → ⊥) → Permutation n order → Pruned Counts n order cover → cover ≡ replicate n 0
 all_drop {n = n} {cover = cover} f q p =

@@ -1,0 +1,12 @@
+use Rattle.search.proofs.States.{going-taken, going-shut}
+use mathlib.Core.Logic.{⊎_elim}
+use Rattle.search.proofs.labels.take_one.Goals as goal
+
+pub relax-requires-clause-going : goal.relax-requires-clause-going
+relax-requires-clause-going c = going-taken _ _ _ _ _ _ _ _ _ c.requires.going _ _ _ c.take-u.ensures.heap_2 c.take-u.ensures.without
+
+pub relax-requires-then-blocked-u-eq0-clause-going : goal.relax-requires-then-blocked-u-eq0-clause-going
+relax-requires-then-blocked-u-eq0-clause-going c = going-taken _ _ _ _ _ _ _ _ _ c.requires.going _ _ _ c.take-u.ensures.heap_2 c.take-u.ensures.without
+
+pub returns-clause-going_2 : goal.returns-clause-going_2
+returns-clause-going_2 c = going-shut _ _ _ _ _ _ _ _ _ c.requires.going _ _ _ c.take-u.ensures.heap_2 c.take-u.ensures.without (⊎_elim c.if-u-source.false c.if-blocked-u-eq0.false)
