@@ -1,7 +1,7 @@
 -- The call: from its checks to the outcome, and what the outcome promises.
 use mathlib.Core.Path.{◌≡◌, sym, ap, subst, subst₂, ◌∙◌}
 use mathlib.Core.List.{List, [], ◌∷◌}
-use Prim.Native.Nat.{ℕ, ◌+◌, ◌-◌, ◌≤◌, ◌<◌}
+use Prim.Native.Nat.{ℕ, ◌+◌, ◌≤◌, ◌<◌}
 use native.Mathlib.Omega.{arith}
 use lib.ListN.{length, replicate}
 use Rattle.paths.specs.Lists.{Each}

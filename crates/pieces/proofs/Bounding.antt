@@ -2,7 +2,7 @@
 use mathlib.Core.Path.{◌≡◌, refl, sym, ap, subst, ◌∙◌}
 use mathlib.Core.Logic.{◌⊎◌, inl, inr, ⊎_elim, ◌≢◌}
 use mathlib.Core.List.{List, [], ◌∷◌, reverse}
-use Prim.Native.Nat.{ℕ, ◌+◌, ◌-◌, ◌≤◌, ◌<◌}
+use Prim.Native.Nat.{ℕ, ◌+◌, ◌≤◌, ◌<◌}
 use native.Mathlib.Decide.{dec_lt, ℕ_discrete}
 use native.Mathlib.Omega.{arith}
 use lib.ListN.{length, get_or, set, replicate, length-set, length-reverse, get_or-replicate, get_or-eq_default}
@@ -30,6 +30,7 @@ pub even_along :
 even_along {s = s} e stop d x (inl q) = ap (λ (z : ℕ). get_or s z 0) q
 even_along {s = s} e (step t r) d x (inl q) = ap (λ (z : ℕ). get_or s z 0) q
 even_along e (step {a = a} {x = y} {w = w} t r) d x (inr h) = even_along e r d.1 x h ∙ sym (e.even a y w t d.0 d.1.0)
+even_along {G = G} {cover = cover} {s = s} e (stop {a = a}) d x (inr h) = elim h [ ]
 
 -- What is said of the sizes holds of the graph turned round.
 pub pieced_turned : {G : Graph} {k : ℕ} {cover s : List ℕ} → Proper G → Pieced G k cover s → Pieced (turned G) k cover s

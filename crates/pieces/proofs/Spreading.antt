@@ -3,7 +3,7 @@ use mathlib.Core.Path.{◌≡◌, refl, sym, ap, subst, ◌∙◌}
 use mathlib.Core.Bool.{Bool, true, false}
 use mathlib.Core.Logic.{◌⊎◌, inl, inr}
 use mathlib.Core.List.{List, [], ◌∷◌}
-use Prim.Native.Nat.{ℕ, zero, suc, ◌+◌, ◌-◌, ◌≤◌, ◌<◌}
+use Prim.Native.Nat.{ℕ, zero, suc, ◌+◌, ◌≤◌, ◌<◌}
 use native.Mathlib.Decide.{ℕ_discrete}
 use native.Mathlib.Omega.{arith}
 use borrow.Author.Tests.{lt-ltb, le-ltb}
@@ -40,7 +40,7 @@ room_for_one (x ∷ l) (suc y) r h = omega (arith, bit_small (ltb x r), room_for
 
 module _ {r : ℕ} where
   pub raises-long :
-      {sizes pieces sizes' pieces' : List ℕ} {count count' : ℕ} → Raises r sizes pieces count sizes' pieces' count' →
+      {sizes pieces : List ℕ} {count : ℕ} {sizes' pieces' : List ℕ} {count' : ℕ} → Raises r sizes pieces count sizes' pieces' count' →
       (length sizes' ≡ length sizes) × (length pieces' ≡ length pieces) × (count ≤ count')
   raises-long none = (refl, refl, omega arith)
   raises-long (more {sizes' = s} {pieces' = p} {count' = c} q y h l) =
@@ -48,20 +48,20 @@ module _ {r : ℕ} where
       (length-set s y r ∙ e.0, length-set p c y ∙ e.1, omega (arith, e.2))
 
   pub raises-then :
-      {s p s' p' s'' p'' : List ℕ} {c c' c'' : ℕ} → Raises r s p c s' p' c' → Raises r s' p' c' s'' p'' c'' → Raises r s p c s'' p'' c''
+      {s p : List ℕ} {c : ℕ} {s' p' : List ℕ} {c' : ℕ} {s'' p'' : List ℕ} {c'' : ℕ} → Raises r s p c s' p' c' → Raises r s' p' c' s'' p'' c'' → Raises r s p c s'' p'' c''
   raises-then q none = q
   raises-then q (more t y h l) = more (raises-then q t) y h l
 
   -- each node raised takes one place
-  pub raises-room : {s p s' p' : List ℕ} {c c' : ℕ} → Raises r s p c s' p' c' → c' + under r s' ≡ c + under r s
+  pub raises-room : {s p : List ℕ} {c : ℕ} {s' p' : List ℕ} {c' : ℕ} → Raises r s p c s' p' c' → c' + under r s' ≡ c + under r s
   raises-room none = refl
   raises-room (more {sizes' = s} q y h l) = omega (arith, raises-room q, under_raised s y r h l)
 
-  pub room_after : {s p s' p' : List ℕ} {c c' : ℕ} → Raises r s p c s' p' c' → c + under r s ≤ length p → c' + under r s' ≤ length p'
+  pub room_after : {s p : List ℕ} {c : ℕ} {s' p' : List ℕ} {c' : ℕ} → Raises r s p c s' p' c' → c + under r s ≤ length p → c' + under r s' ≤ length p'
   room_after q h = omega (arith, raises-room q, (raises-long q).1)
 
   -- the nodes that waited still stand where they stood
-  pub raises-front : {s p s' p' : List ℕ} {c c' : ℕ} → Raises r s p c s' p' c' → (j : ℕ) → j < c → get_or p' j 0 ≡ get_or p j 0
+  pub raises-front : {s p : List ℕ} {c : ℕ} {s' p' : List ℕ} {c' : ℕ} → Raises r s p c s' p' c' → (j : ℕ) → j < c → get_or p' j 0 ≡ get_or p j 0
   raises-front none j b = refl
   raises-front (more {pieces' = p} {count' = c} q y h l) j b = get_or-set_other p c j y 0 (λ e. omega (arith, (raises-long q).2)) ∙ raises-front q j b
 
@@ -90,7 +90,7 @@ module _ {r : ℕ} where
       to x (yes e) = inr (at x e)
       to x (no n) = inl (get_or-set_other s y x r 0 n)
 
-  pub raises-grown : {s p s' p' : List ℕ} {c c' : ℕ} → Raises r s p c s' p' c' → Grown r s s'
+  pub raises-grown : {s p : List ℕ} {c : ℕ} {s' p' : List ℕ} {c' : ℕ} → Raises r s p c s' p' c' → Grown r s s'
   raises-grown none = grown-none
   raises-grown (more {sizes' = s} q y h l) = grown-then (raises-grown q) (grown-one s y h l)
 
@@ -165,7 +165,7 @@ module _ {G : Graph} {cover : List ℕ} {r : ℕ} where
             size-by (get_or p j 0) (g.low j (omega (arith, n))) (ℕ_discrete (get_or p j 0) y),
           )
 
-  pub spreads-raises : {s p s' p' : List ℕ} {i c c' : ℕ} → Spreads G cover r s p i c → Raises r s p c s' p' c' → Spreads G cover r s' p' i c'
+  pub spreads-raises : {s p : List ℕ} {i c : ℕ} {s' p' : List ℕ} {c' : ℕ} → Spreads G cover r s p i c → Raises r s p c s' p' c' → Spreads G cover r s' p' i c'
   spreads-raises g none = g
   spreads-raises {i = i} g (more {sizes' = s} {pieces' = p} {count' = c} q y h l) = spreads-pushed s p i c y (spreads-raises g q) h l
 

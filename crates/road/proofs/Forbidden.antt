@@ -1,8 +1,8 @@
 -- Verdicts that the checks' contracts rule out: what each says is taken, is not.
 use mathlib.Core.Path.{◌≡◌, sym, subst}
-use mathlib.Core.Logic.{inl, inr, ◌≢◌}
+use mathlib.Core.Logic.{◌≢◌}
 use mathlib.Core.List.{List, [], ◌∷◌}
-use Prim.Native.Nat.{ℕ, zero, suc, ◌+◌, ◌≤◌, ◌<◌}
+use Prim.Native.Nat.{ℕ, zero, suc, ◌+◌, ◌<◌}
 use native.Mathlib.Omega.{arith}
 use lib.ListN.{length, get_or}
 use Rattle.paths.specs.Lists.{Mem, Different}
@@ -12,7 +12,7 @@ use Rattle.road.specs.declared.Refusal.{Refusal}
 use Rattle.road.specs.declared.Verdict.{Verdict}
 use Rattle.road.specs.declared.Verdict.TheVariants.{Passed}
 use Rattle.road.specs.Drives.{Joined, BadDrive, drive_fault}
-use Rattle.road.specs.Faults.{BadSizes, BadSetSize, BadK, Permutation, sizes, set_size, k_fault, order_fault, graph_faults}
+use Rattle.road.specs.Faults.{BadSizes, BadSetSize, BadK, sizes, set_size, k_fault, order_fault, graph_faults}
 use Rattle.road.specs.Limits.{road_limits}
 use Rattle.road.specs.Refusals.{Of}
 use Rattle.road.specs.Roads.{Owns}

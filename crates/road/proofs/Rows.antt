@@ -1,7 +1,7 @@
 -- Rows: each place has one tail, and well-formedness is that checks 1 to 3 find nothing.
 use mathlib.Core.Path.{◌≡◌, ap}
 use mathlib.Core.List.{List}
-use Prim.Native.Nat.{ℕ, zero, suc, ◌+◌, ◌-◌, ◌≤◌, ◌<◌}
+use Prim.Native.Nat.{ℕ, zero, suc, ◌+◌, ◌≤◌, ◌<◌}
 use native.Mathlib.Decide.{dec_lt, dec_le, le_ind}
 use native.Mathlib.Numerals.{add-one}
 use native.Mathlib.Omega.{arith}

@@ -3,7 +3,7 @@ use Rattle.std.specs.Prelude.{◌≡◌, Bool, true, false, ◌⊎◌, List, [],
 use Rattle.road.specs.declared.Refusal.{Refusal}
 use Rattle.road.specs.declared.Verdict.{Verdict}
 use Rattle.road.specs.declared.Verdict.TheVariants.{Passed, Refused}
-use Rattle.road.specs.Refusals.{answer, Fault, None, First}
+use Rattle.road.specs.Refusals.{Fault, None, First}
 
 -- it holds of at most one
 pub record Single (F : Fault) : Type 0 where

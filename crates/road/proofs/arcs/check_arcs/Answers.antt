@@ -3,7 +3,7 @@ use Rattle.road.proofs.Scans.{clear_at, found_none}
 use mathlib.Core.Path.{◌≡◌, ap, ◌∙◌}
 use native.Mathlib.Omega.{arith}
 use lib.ListN.{get_or}
-use Prim.Native.Nat.{ℕ, ◌-◌, ◌≤◌}
+use Prim.Native.Nat.{ℕ, ◌≤◌}
 use Rattle.road.proofs.arcs.check_arcs.Goals as goal
 
 at-end : {a b : ℕ} → a ≤ b → b ≤ a → a ≡ b

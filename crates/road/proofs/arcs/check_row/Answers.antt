@@ -1,6 +1,5 @@
 use Rattle.road.proofs.Scans.{clear_at, clear-more, placed, found}
 use native.Mathlib.Omega.{arith}
-use Prim.Native.Nat.{◌-◌}
 use Rattle.road.proofs.arcs.check_row.Goals as goal
 
 pub check_arc-found-requires : goal.check_arc-found-requires

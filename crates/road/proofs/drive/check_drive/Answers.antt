@@ -1,5 +1,4 @@
 use Rattle.road.proofs.Refusals.{judged-refused}
-use Prim.Native.Nat.{◌-◌}
 use Rattle.road.proofs.drive.check_drive.Goals as goal
 
 pub returns-in_default : goal.returns-in_default

@@ -1,7 +1,6 @@
 use Rattle.road.proofs.Refusals.{told}
 use Rattle.road.proofs.Drives.{apart-at}
 use Rattle.road.specs.Drives.{outside}
-use Prim.Native.Nat.{◌-◌}
 use native.Mathlib.Omega.{arith}
 use Rattle.road.proofs.drive.check_position.Goals as goal
 

@@ -1,7 +1,6 @@
 use Rattle.road.proofs.Drives.{between_left, between-right, middle-joined, middle-listed}
 use Rattle.road.proofs.Refusals.{tells_yes}
 use native.Mathlib.Omega.{arith}
-use Prim.Native.Nat.{◌-◌}
 use Rattle.road.proofs.drive.joined.Goals as goal
 
 pub bounds-heads-middle : goal.bounds-heads-middle

@@ -1,6 +1,5 @@
 use Rattle.road.proofs.Refusals.{refuses, passes}
 use Rattle.road.proofs.Orders.{mark_none, repeats, other_length, permutes}
-use Prim.Native.Nat.{◌-◌}
 use Rattle.road.proofs.order.check_order.Goals as goal
 
 pub returns-then-order-n : goal.returns-then-order-n

@@ -1,7 +1,6 @@
 use Rattle.road.proofs.Refusals.{refuses}
 use Rattle.road.specs.Faults.{other}
 use native.Mathlib.Omega.{arith}
-use Prim.Native.Nat.{◌-◌}
 use Rattle.road.proofs.sets.check_set.Goals as goal
 
 pub returns-then-set-v-gt1 : goal.returns-then-set-v-gt1

@@ -1,7 +1,6 @@
 use Rattle.road.proofs.Refusals.{refuses}
 use Rattle.road.specs.Faults.{falls}
 use native.Mathlib.Omega.{arith}
-use Prim.Native.Nat.{◌-◌}
 use Rattle.road.proofs.starts.check_starts.Goals as goal
 
 pub returns-then-starts-u : goal.returns-then-starts-u

@@ -1,5 +1,5 @@
 use lib.ListN.{get_or}
-use Prim.Native.Nat.{ℕ, ◌-◌, ◌≤◌, ◌<◌}
+use Prim.Native.Nat.{ℕ, ◌≤◌, ◌<◌}
 use mathlib.Core.Logic.{◌≢◌}
 use Rattle.trails.proofs.Trail.has.Given as goal
 

@@ -1,4 +1,3 @@
-use Prim.Native.Nat.{◌-◌}
 use native.Mathlib.Omega.{arith}
 use Rattle.trails.specs.Trails.{on_trail}
 use Rattle.trails.proofs.Searching.{best_at, best_none, best-met, best-missed, best-is, best-reached, best-short, longest-most, longest_none, longest_carried, row_bounds, place-listed}
