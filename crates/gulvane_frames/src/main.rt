@@ -177,7 +177,7 @@ fn turn(
 ) -> io::Result<Run>
     requires phase_value { goes r.state.phase ≡ true }
     requires fine { Fine r }
-    ensures { IfOk result (λ after. Fine after) }
+    ensures { IfOk result Fine }
 {
     let s = r.state;
     let used = r.used;
