@@ -10,14 +10,16 @@ mod numbers;
 mod rules;
 mod takes;
 
-fn main() {
-    rules::checks();
-    rules::rooms();
-    numbers::limits();
-    numbers::refusals();
-    numbers::counts();
-    numbers::overlays();
-    takes::lines();
-    takes::grids();
-    takes::others();
+use std::io;
+
+fn main(rt: HostRuntime) -> io::Result<()> {
+    rules::checks(&rt)?;
+    rules::rooms(&rt)?;
+    numbers::limits(&rt)?;
+    numbers::refusals(&rt)?;
+    numbers::counts(&rt)?;
+    numbers::overlays(&rt)?;
+    takes::lines(&rt)?;
+    takes::grids(&rt)?;
+    takes::others(&rt)
 }

@@ -7,6 +7,7 @@ use crate::graphs::{Case, fill};
 use printing::number;
 use road::{Verdict, check_graph, overlay_limits};
 use search::{begin, take_one};
+use std::io;
 
 // Searches from node 0, and counts the nodes taken, up to a hundred thousand.
 fn takes(
@@ -47,18 +48,23 @@ fn labelled(labels: &[u64; 4096]) -> usize {
     count
 }
 
-fn tell(taken: usize, labels: &[u64; 4096]) {
-    number(b" taken ", taken as u64);
-    number(b" labelled ", labelled(labels) as u64);
+fn tell(rt: &impl Print, taken: usize, labels: &[u64; 4096]) -> io::Result<()> {
+    number(rt, b" taken ", taken as u64)?;
+    number(rt, b" labelled ", labelled(labels) as u64)
 }
 
 // Searches the graph, where it passes the checks, and tells what was taken and labelled.
-fn ask(starts: &[u32; 4097], heads: &[u32], weights: &[u32], blocked: &[u8])
+fn ask(
+    rt: &impl Print,
+    starts: &[u32; 4097],
+    heads: &[u32],
+    weights: &[u32],
+    blocked: &[u8],
+) -> io::Result<()>
     requires { length blocked.now ≡ 4096 }
 {
     let Verdict::Passed = check_graph(starts, heads, weights, overlay_limits()) else {
-        io::write_all(1, b" refused");
-        return;
+        return rt.write_all(b" refused");
     };
     let mut labels = [0u64; 4096];
     let mut heap = [0u32; 4096];
@@ -72,53 +78,62 @@ fn ask(starts: &[u32; 4097], heads: &[u32], weights: &[u32], blocked: &[u8])
         &mut heap,
         &mut places,
     );
-    tell(taken, &labels);
+    tell(rt, taken, &labels)
 }
 
 // Lends the graph's part of the arrays.
-fn lend(starts: &[u32; 4097], heads: &[u32], weights: &[u32], m: usize, blocked: &[u8; 4096])
+fn lend(
+    rt: &impl Print,
+    starts: &[u32; 4097],
+    heads: &[u32],
+    weights: &[u32],
+    m: usize,
+    blocked: &[u8; 4096],
+) -> io::Result<()>
     requires m_in_bounds { m ≤ length heads.now }
     requires m_in_bounds_2 { m ≤ length weights.now }
 {
-    ask(starts, &heads[0..m], &weights[0..m], blocked);
+    ask(rt, starts, &heads[0..m], &weights[0..m], blocked)
 }
 
 fn fill_and_lend(
+    rt: &impl Print,
     case: Case,
     starts: &mut [u32; 4097],
     heads: &mut [u32; 16384],
     weights: &mut [u32; 16384],
     blocked: &mut [u8; 4096],
-) {
+) -> io::Result<()> {
     let m = fill(case, starts, heads, weights, blocked);
-    lend(starts, heads, weights, m, blocked);
+    lend(rt, starts, heads, weights, m, blocked)
 }
 
-fn line(label: &[u8], case: Case) {
-    io::write_all(1, label);
+fn line(rt: &impl Print, label: &[u8], case: Case) -> io::Result<()> {
+    rt.write_all(label)?;
     fill_and_lend(
+        rt,
         case,
         &mut [0; 4097],
         &mut [0; 16384],
         &mut [0; 16384],
         &mut [0; 4096],
-    );
-    io::write_all(1, b"\n");
+    )?;
+    rt.write_all(b"\n")
 }
 
-pub fn lines() {
-    line(b"line of 4096:", Case::Line);
-    line(b"line of 4096, node 10 blocked:", Case::LineCut);
-    line(b"two lines, of 100 and of 3996:", Case::Halves);
+pub fn lines(rt: &impl Print) -> io::Result<()> {
+    line(rt, b"line of 4096:", Case::Line)?;
+    line(rt, b"line of 4096, node 10 blocked:", Case::LineCut)?;
+    line(rt, b"two lines, of 100 and of 3996:", Case::Halves)
 }
 
-pub fn grids() {
-    line(b"grid of 64 by 64:", Case::Grid);
-    line(b"grid, column 31 blocked:", Case::GridColumn);
-    line(b"grid, the source blocked:", Case::GridSource);
+pub fn grids(rt: &impl Print) -> io::Result<()> {
+    line(rt, b"grid of 64 by 64:", Case::Grid)?;
+    line(rt, b"grid, column 31 blocked:", Case::GridColumn)?;
+    line(rt, b"grid, the source blocked:", Case::GridSource)
 }
 
-pub fn others() {
-    line(b"diamonds:", Case::Diamonds);
-    line(b"fan:", Case::Fan);
+pub fn others(rt: &impl Print) -> io::Result<()> {
+    line(rt, b"diamonds:", Case::Diamonds)?;
+    line(rt, b"fan:", Case::Fan)
 }

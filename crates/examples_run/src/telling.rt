@@ -6,69 +6,55 @@ use distance::DistanceAnswer;
 use drive::ThinAnswer;
 use overlay::OverlayAnswer;
 use printing::{number, refused};
+use std::io;
 
-fn byte(x: u8) {
-    number(b" ", x as u64);
+fn byte(rt: &impl Print, x: u8) -> io::Result<()> {
+    number(rt, b" ", x as u64)
 }
 
-fn bytes(s: &[u8; 8], end: usize)
+fn bytes(rt: &impl Print, s: &[u8; 8], end: usize) -> io::Result<()>
     requires { end ≤ 8 }
 {
     let mut i = 0;
     while i < end {
-        byte(s[i]);
+        byte(rt, s[i])?;
         i += 1;
     }
+    Ok(())
 }
 
 // A byte for each of the n nodes, 1 in the cover, and how many are.
-pub fn tell_cover(said: CoverAnswer, chosen: &[u8; 8], n: usize)
+pub fn tell_cover(rt: &impl Print, said: CoverAnswer, chosen: &[u8; 8], n: usize) -> io::Result<()>
     requires { n ≤ 8 }
 {
     match said {
         CoverAnswer::Covered(count) => {
-            io::write_all(1, b" cover");
-            bytes(chosen, n);
-            number(b" count ", count.0 as u64);
+            rt.write_all(b" cover")?;
+            bytes(rt, chosen, n)?;
+            number(rt, b" count ", count.0 as u64)
         }
-        CoverAnswer::Refused(why) => {
-            refused(why);
-        }
+        CoverAnswer::Refused(why) => refused(rt, why),
     }
 }
 
-pub fn tell_overlay(said: OverlayAnswer) {
+pub fn tell_overlay(rt: &impl Print, said: OverlayAnswer) -> io::Result<()> {
     match said {
-        OverlayAnswer::Built(count) => {
-            number(b" overlay arcs ", count.0 as u64);
-        }
-        OverlayAnswer::Refused(why) => {
-            refused(why);
-        }
+        OverlayAnswer::Built(count) => number(rt, b" overlay arcs ", count.0 as u64),
+        OverlayAnswer::Refused(why) => refused(rt, why),
     }
 }
 
-pub fn tell_distance(said: DistanceAnswer) {
+pub fn tell_distance(rt: &impl Print, said: DistanceAnswer) -> io::Result<()> {
     match said {
-        DistanceAnswer::Way(d) => {
-            number(b" way ", d);
-        }
-        DistanceAnswer::NoWay => {
-            io::write_all(1, b" no way");
-        }
-        DistanceAnswer::Refused(why) => {
-            refused(why);
-        }
+        DistanceAnswer::Way(d) => number(rt, b" way ", d),
+        DistanceAnswer::NoWay => rt.write_all(b" no way"),
+        DistanceAnswer::Refused(why) => refused(rt, why),
     }
 }
 
-pub fn tell_drive(said: ThinAnswer) {
+pub fn tell_drive(rt: &impl Print, said: ThinAnswer) -> io::Result<()> {
     match said {
-        ThinAnswer::Thinned(count) => {
-            number(b" positions kept ", count.0 as u64);
-        }
-        ThinAnswer::Refused(why) => {
-            refused(why);
-        }
+        ThinAnswer::Thinned(count) => number(rt, b" positions kept ", count.0 as u64),
+        ThinAnswer::Refused(why) => refused(rt, why),
     }
 }

@@ -1,13 +1,15 @@
 // The frame program: it cuts standard input at line feeds and hands each line to `frames`. What a
-// line is and does is decided there.
+// line is and does is decided there. A read or a write that fails ends it with the error.
 #![tactic(auto)]
 
-ghost use Rattle.std.specs.Prelude.{◌≡◌, true, ◌+◌, ◌≤◌, length};
+ghost use Rattle.std.specs.Prelude.{◌≡◌, true, ◌+◌, ◌≤◌, length, IfOk};
 ghost use Rattle.frames.specs.Held.{Good, Lengths, map_room};
 ghost use Rattle.frames.specs.Stages.{goes};
 ghost use Rattle.gulvane_frames.specs.workings.Runs.{Cut, Fine};
 
 use frames::{Phase, State, Taken, first, take_end, take_line, take_unended};
+use std::io;
+use std::io::Read;
 
 // Where the program is: the state, how much of the chunk is used and filled, how much of the line
 // is kept, and how much of the output waits.
@@ -81,29 +83,29 @@ fn running(s: State) -> bool
 }
 
 // Prints what waits.
-fn flush(out: &[u8], at: usize)
+fn flush(rt: &impl Print, out: &[u8], at: usize) -> io::Result<()>
     requires { at ≤ length out.now }
 {
-    io::write_all(libc::STDOUT_FILENO, &out[0..at]);
+    rt.write_all(&out[0..at])
 }
 
 // Prints what waits at the end.
-fn print_rest(out: &[u8; 131072], at: usize)
+fn print_rest(rt: &impl Print, out: &[u8; 131072], at: usize) -> io::Result<()>
     requires { at ≤ 49152 }
 {
-    flush(out, at);
+    flush(rt, out, at)
 }
 
 // Prints what waits once it is much; says how much waits then.
-fn drain(out: &[u8], at: usize) -> usize
+fn drain(rt: &impl Print, out: &[u8], at: usize) -> io::Result<usize>
     requires { at ≤ length out.now }
-    ensures { result ≤ 49152 }
+    ensures { IfOk result (λ left. left ≤ 49152) }
 {
     if 49152 < at {
-        flush(out, at);
-        return 0;
+        flush(rt, out, at)?;
+        return Ok(0);
     }
-    at
+    Ok(at)
 }
 
 // Hands on the part of the line that is kept.
@@ -159,6 +161,7 @@ fn finish(s: State, kept: usize, out: &mut [u8; 131072], at: usize) -> Taken
 
 // Reads more of the input, or takes a line or a piece of one.
 fn turn(
+    rt: &(impl Input + Print),
     r: Run,
     chunk: &mut [u8; 65536],
     line: &mut [u8; 261],
@@ -171,10 +174,10 @@ fn turn(
     over_heads: &mut [u32; 4096],
     over_weights: &mut [u32; 4096],
     out: &mut [u8; 131072],
-) -> Run
+) -> io::Result<Run>
     requires phase_value { goes r.state.phase ≡ true }
     requires fine { Fine r }
-    ensures { Fine result }
+    ensures { IfOk result Fine }
 {
     let s = r.state;
     let used = r.used;
@@ -182,27 +185,27 @@ fn turn(
     let kept = r.kept;
     let at = r.at;
     if used == filled {
-        let got = io::count(libc::read(libc::STDIN_FILENO, chunk), chunk);
+        let got = rt.reader().read(chunk)?;
         if got == 0 {
             let last = finish(s, kept, out, at);
             let end = last.at;
             let state = last.state;
-            let left = drain(out, end);
-            return Run {
+            let left = drain(rt, out, end)?;
+            return Ok(Run {
                 state: state,
                 used: 0,
                 filled: 0,
                 kept: 0,
                 at: left,
-            };
+            });
         }
-        return Run {
+        return Ok(Run {
             state: s,
             used: 0,
             filled: got,
             kept: kept,
             at: at,
-        };
+        });
     }
     let piece = cut(chunk, used, filled, line, kept);
     let k = piece.kept;
@@ -225,25 +228,25 @@ fn turn(
         );
         let end = taken.at;
         let state = taken.state;
-        let left = drain(out, end);
-        return Run {
+        let left = drain(rt, out, end)?;
+        return Ok(Run {
             state: state,
             used: next,
             filled: filled,
             kept: 0,
             at: left,
-        };
+        });
     }
-    Run {
+    Ok(Run {
         state: s,
         used: next,
         filled: filled,
         kept: k,
         at: at,
-    }
+    })
 }
 
-fn main() {
+fn main(rt: HostRuntime) -> io::Result<()> {
     let mut chunk = [0u8; 65536];
     let mut line = [0u8; 261];
     let mut tails = [0u32; 2048];
@@ -267,10 +270,10 @@ fn main() {
         let s = r.state;
         if !running(s) {
             let at = r.at;
-            print_rest(&out, at);
-            return;
+            return print_rest(&rt, &out, at);
         }
         r = turn(
+            &rt,
             r,
             &mut chunk,
             &mut line,
@@ -283,7 +286,8 @@ fn main() {
             &mut over_heads,
             &mut over_weights,
             &mut out,
-        );
+        )?;
         turns -= 1;
     }
+    Ok(())
 }

@@ -1,4 +1,2 @@
-pub mod Again
-pub mod Held
 pub mod Values
 pub mod Growing

@@ -1,5 +1,5 @@
-// The writer that holds its slice. The functions over it are few and thin, and are proved by walks
-// of their code; `write_byte`, whose parameters are plain, serves every other caller.
+// The writer that holds its slice. The functions over it are few and thin; `write_byte`, whose
+// parameters are plain, serves every other caller.
 ghost use Rattle.std.specs.Prelude.{◌≡◌, ◌+◌, ◌<◌, ◌/◌, ◌%◌, length, set};
 ghost use Rattle.hexlines.specs.Text.{digit};
 ghost use Rattle.hexlines.specs.Writers.{grown};
@@ -34,11 +34,19 @@ pub fn put_byte<'a>(w: Writer<'a>, b: u8) -> Writer<'a>
     }
 }
 
+// From a slice to a writer, one byte further.
+fn begun<'a>(buf: &'a mut [u8], at: usize, b: u8) -> Writer<'a>
+    requires { at + 1 < length buf.old }
+    ensures { result ≡ grown (record { buf = buf.entry; at = at }) b }
+{
+    put_byte(new(buf, at), b)
+}
+
 // From a slice to a writer and back.
 pub fn write_byte(buf: &mut [u8], at: usize, b: u8) -> usize
     requires { at + 1 < length buf.old }
     ensures { (result ≡ at + 2) × (buf.new ≡ set (set buf.old at (digit (b / 16))) (at + 1) (digit (b % 16))) }
 {
-    let w = put_byte(new(buf, at), b);
+    let w = begun(buf, at, b);
     place(w)
 }

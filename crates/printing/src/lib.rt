@@ -2,14 +2,15 @@
 #![tactic(auto)]
 
 use road::Refusal;
+use std::io;
 
 // The label and the number.
-pub fn number(label: &[u8], n: u64) {
-    io::write_all(1, label);
-    io::print_decimal(1, n);
+pub fn number(rt: &impl Print, label: &[u8], n: u64) -> io::Result<()> {
+    rt.write_all(label)?;
+    print!(rt; "{n}")
 }
 
 // The refusal's number.
-pub fn refused(why: Refusal) {
-    number(b" refused ", road::number(why) as u64);
+pub fn refused(rt: &impl Print, why: Refusal) -> io::Result<()> {
+    number(rt, b" refused ", road::number(why) as u64)
 }

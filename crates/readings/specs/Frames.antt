@@ -1,5 +1,5 @@
 -- The lines that the program reads.
-use Rattle.std.specs.Prelude.{◌≡◌, List, [], ◌∷◌, ◌++◌, ℕ, ◌+◌, ◌≤◌, ◌<◌, ◌^◌, length, drop}
+use Rattle.std.specs.Prelude.{◌≡◌, List, [], ◌∷◌, ◌++◌, ℕ, ◌≤◌, ◌<◌, ◌^◌, length, drop}
 use Rattle.paths.specs.Lists.{Each}
 use Rattle.hexlines.specs.Outputs.{one, two, four}
 use Rattle.hexlines.specs.Text.{hex_text}
