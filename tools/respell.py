@@ -8,12 +8,15 @@ import os
 import re
 import sys
 
-TOKEN = re.compile(r"[A-Za-z0-9_'\-\u2080-\u2089\u0370-\u03ff]+")
+# a branch's facts are named by Rattle, after the code
+TOKEN = re.compile(r"(?<!\bw\.)[A-Za-z0-9_'\-\u2080-\u2089\u0370-\u03ff]+")
 USE = re.compile(r"^\s*(?:ghost )?use\s+([^{\s;]+)(?:\.\{([^}]*)\})?")
 HEAD = re.compile(r"^((?:(?:abbrev|unfoldable|pub)\s+)*)((?:data|record|ruleset)\s+)?(?:pub\s+)?([^\s(){}:;,=]+)(.*)$")
 # where the plain spelling is taken in the same file
-APART = {"at-most": "length_at_most", "count-of": "length_count_of"}
+APART = {"at-most": "length_at_most", "count-of": "length_count_of", "kind-of": "kind_as", "through-exits": "through_exits_lem"}
 MEMBER = re.compile(r"^\s+(?:pub\s+)?([^\s(){}:;,=]+)\s*:")
+# in a module without a name, and in what a lemma keeps to itself
+NESTED = re.compile(r"^\s+(?:abbrev |unfoldable )?(?:pub )?(?:data |record )?([^\s(){}:;,=.]+)\s*:(?=\s|$)")
 
 
 def texts(ends):
@@ -33,7 +36,7 @@ def defined():
     """The names that files of specs/ and lemma files of proofs/ define. What a function's Proof.antt defines are goals, named by Rattle."""
     names = set()
     for path in texts(".antt"):
-        if path.endswith("/Proof.antt"):
+        if os.path.basename(path) in ("Proof.antt", "Answers.antt", "Invariants.antt"):
             continue
         inside = False
         for line in read(path).splitlines():
@@ -44,8 +47,8 @@ def defined():
                 if m and (m.group(2) or re.match(r"\s*:", m.group(4))):
                     names.add(m.group(3))
                 inside = bool(m and m.group(2))
-            elif inside:
-                m = MEMBER.match(line)
+            else:
+                m = (MEMBER if inside else NESTED).match(line)
                 if m:
                     names.add(m.group(1))
     return names

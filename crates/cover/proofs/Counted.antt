@@ -9,9 +9,9 @@ use lib.Seq.{take_all}
 use Rattle.road.specs.Counting.{times}
 use Rattle.road.specs.Limits.{overlay_limits}
 use Rattle.road.specs.Roads.{road}
-use Rattle.road.proofs.Faults.{road-proper}
+use Rattle.road.proofs.Faults.{road_proper}
 use Rattle.rule.specs.Rule.{Needed, PathOf}
-use Rattle.rule.proofs.Few.{few-unneeded}
+use Rattle.rule.proofs.Few.{few_unneeded}
 use Rattle.pieces.specs.workings.Steps.{Prunable}
 use Rattle.cover.specs.workings.Few.{Few}
 
@@ -26,4 +26,4 @@ pub few_stays_not :
     (starts heads weights starts' heads' weights' cover : List ℕ) (k v : ℕ) (few : Bool) → Prunable starts heads weights starts' heads' weights' cover → v < length cover →
     Few few cover k → few ≡ true → Needed (PathOf (road starts heads weights) k) cover v → ⊥
 few_stays_not starts heads weights starts' heads' weights' cover k v few g h f e =
-    few-unneeded (road starts heads weights) (road-proper overlay_limits starts heads weights g.sound) k cover v g.bytes h (f.fewer e)
+    few_unneeded (road starts heads weights) (road_proper overlay_limits starts heads weights g.sound) k cover v g.bytes h (f.fewer e)

@@ -8,7 +8,7 @@ use lib.ListN.{length, get_or, replicate}
 use Rattle.paths.specs.Graphs.{Graph, Along, stop, step}
 use Rattle.paths.specs.Lists.{Mem}
 use Rattle.paths.proofs.Lists.{each_mem}
-use Rattle.paths.proofs.Weights.{path-short}
+use Rattle.paths.proofs.Weights.{path_short}
 use Rattle.road.specs.Chains.{cover_faults}
 use Rattle.road.specs.Counting.{times}
 use Rattle.road.specs.declared.Refusal.{Refusal}
@@ -19,17 +19,17 @@ use Rattle.road.specs.Order.{Numbered, HoldsAt, NoneTo}
 use Rattle.road.specs.Refusals.{None, Said, refusal, answer}
 use Rattle.road.specs.Roads.{nodes_of, Arc, road}
 use Rattle.road.specs.workings.Sound.{Sound}
-use Rattle.road.proofs.Faults.{graph-numbered, road-proper}
-use Rattle.road.proofs.Left.{cover-left}
+use Rattle.road.proofs.Faults.{graph_numbered, road_proper}
+use Rattle.road.proofs.Left.{cover_left}
 use Rattle.road.specs.workings.Left.{OfK}
 use Rattle.road.proofs.Refusals.{of_single, of_number, first_one, first_at, first_not_none, none_front, number_some, refusal_one, refusal_no_answer}
-use Rattle.road.proofs.Verdicts.{singles_both, cover-singles}
+use Rattle.road.proofs.Verdicts.{singles_both, cover_singles}
 use Rattle.cover.specs.declared.CoverAnswer.{CoverAnswer}
 use Rattle.cover.specs.declared.CoverAnswer.TheVariants.{Covered, Refused}
 use Rattle.cover.specs.Calls.{Areas, Outcome, refused, covered, answered, asked_lengths, faults_of, said_of}
 use Rattle.rule.specs.Promise.{Covers, Tight}
 use Rattle.rule.specs.Rule.{PathOf, Pruned}
-use Rattle.rule.proofs.Rules.{Nodes, prunes-one, covers, tight, same_paths, all_stay, all_drop}
+use Rattle.rule.proofs.Rules.{Nodes, prunes_one, covers, tight, same_paths, all_stay, all_drop}
 
 -- an outcome that is an answer: nothing was at fault, the cover is the rule's, the count is that of its ones, and the work is zero
 pub record Answer (starts heads weights : List ℕ) (k : ℕ) (order : List ℕ) (before : Areas) (said : Said) (after : Areas) : Type 0 where
@@ -48,49 +48,49 @@ said_one (Refused r) (Covered c) e = absurd (refusal_no_answer r (c.0 ∷ []) e)
 said_one (Refused r) (Refused s) e = ap Refused (refusal_one r s e)
 
 module _ (starts heads weights : List ℕ) (k : ℕ) (order : List ℕ) (before : Areas) where
-  none-of-input : None (faults_of starts heads weights k order before) → None (cover_faults starts heads weights k order)
-  none-of-input n = none_front (cover_faults starts heads weights k order) (lengths_fault (asked_lengths (nodes_of starts) (length heads) before) ∷ []) n
+  none_of_input : None (faults_of starts heads weights k order before) → None (cover_faults starts heads weights k order)
+  none_of_input n = none_front (cover_faults starts heads weights k order) (lengths_fault (asked_lengths (nodes_of starts) (length heads) before) ∷ []) n
 
-  all-singles : Singles (faults_of starts heads weights k order before)
-  all-singles =
-      singles_both (cover_faults starts heads weights k order) (lengths_fault (asked_lengths (nodes_of starts) (length heads) before) ∷ []) (cover-singles starts heads weights k order)
+  all_singles : Singles (faults_of starts heads weights k order before)
+  all_singles =
+      singles_both (cover_faults starts heads weights k order) (lengths_fault (asked_lengths (nodes_of starts) (length heads) before) ∷ []) (cover_singles starts heads weights k order)
       (of_single, tt)
 
   -- document 01's order: the faults tell these numbers, one after the other
   pub numbered : Numbered (faults_of starts heads weights k order before) (1 ∷ 2 ∷ 3 ∷ 4 ∷ 5 ∷ 11 ∷ [])
   numbered =
-      let g = graph-numbered road_limits starts heads weights in
+      let g = graph_numbered road_limits starts heads weights in
       (g.0, (g.1.0, (g.1.1.0, (of_number, (of_number, (of_number, tt))))))
 
 module _ {starts heads weights : List ℕ} {k : ℕ} {order : List ℕ} {before : Areas} where
-  pub answer-of : {said : Said} {after : Areas} → Outcome starts heads weights k order before said after → said.number ≡ 0 → Answer starts heads weights k order before said after
-  answer-of (refused {r = r} f) e = absurd (number_some r e)
-  answer-of (covered n p) e =
-      let x = cover-left starts heads weights k order (none-of-input starts heads weights k order before n) in
+  pub answer_of : {said : Said} {after : Areas} → Outcome starts heads weights k order before said after → said.number ≡ 0 → Answer starts heads weights k order before said after
+  answer_of (refused {r = r} f) e = absurd (number_some r e)
+  answer_of (covered n p) e =
+      let x = cover_left starts heads weights k order (none_of_input starts heads weights k order before n) in
       record { sound = x.sound; k_right = x.k_right; order_right = x.order_right; pruned = p; values = refl; areas = refl }
 
   -- two outcomes that the contract allows are equal
-  pub outcome-one :
+  pub outcome_one :
       {said said' : Said} {after after' : Areas} → Outcome starts heads weights k order before said after → Outcome starts heads weights k order before said' after' →
       (said ≡ said') × (after ≡ after')
-  outcome-one (refused {r = r} f) (refused {r = s} g) = (ap refusal (first_one (faults_of starts heads weights k order before) r s (all-singles starts heads weights k order before) f g), refl)
-  outcome-one (refused {r = r} f) (covered n p) = absurd (first_not_none (faults_of starts heads weights k order before) r f n)
-  outcome-one (covered n p) (refused {r = r} f) = absurd (first_not_none (faults_of starts heads weights k order before) r f n)
-  outcome-one (covered n p) (covered m q) =
-      let same = prunes-one p q in
+  outcome_one (refused {r = r} f) (refused {r = s} g) = (ap refusal (first_one (faults_of starts heads weights k order before) r s (all_singles starts heads weights k order before) f g), refl)
+  outcome_one (refused {r = r} f) (covered n p) = absurd (first_not_none (faults_of starts heads weights k order before) r f n)
+  outcome_one (covered n p) (refused {r = r} f) = absurd (first_not_none (faults_of starts heads weights k order before) r f n)
+  outcome_one (covered n p) (covered m q) =
+      let same = prunes_one p q in
       (ap (λ (c : List ℕ). answer (times 1 c ∷ [])) same, ap (answered (nodes_of starts) (length heads)) same)
 
   -- and so are two answers
-  pub answer-one :
+  pub answer_one :
       (a b : CoverAnswer) {after after' : Areas} → Outcome starts heads weights k order before (said_of a) after → Outcome starts heads weights k order before (said_of b) after' →
       (a ≡ b) × (after ≡ after')
-  answer-one a b o p = let e = outcome-one o p in (said_one a b e.0, e.1)
+  answer_one a b o p = let e = outcome_one o p in (said_one a b e.0, e.1)
 
   -- an input with two neighbouring faults, and none before them, is refused by the first
   pub in_order :
       {said : Said} {after : Areas} → Outcome starts heads weights k order before said after → (i : ℕ) (r s : Refusal) → NoneTo (faults_of starts heads weights k order before) i →
       HoldsAt (faults_of starts heads weights k order before) i r → HoldsAt (faults_of starts heads weights k order before) (suc i) s → said ≡ refusal r
-  in_order o i r s n f g = (outcome-one o (refused (first_at (faults_of starts heads weights k order before) i r n f))).0
+  in_order o i r s n f g = (outcome_one o (refused (first_at (faults_of starts heads weights k order before) i r n f))).0
 
 -- each path of k nodes has a node
 path_nodes : (G : Graph) (k : ℕ) → Nodes (PathOf G k) G.nodes
@@ -98,16 +98,16 @@ path_nodes G k = record { node = λ l c. (c.first, subst (Mem c.first) (sym c.wh
 
 module _ {starts heads weights : List ℕ} {k : ℕ} {order : List ℕ} {before : Areas} {said : Said} {after : Areas} (a : Answer starts heads weights k order before said after) where
   -- demand 2: every path of k different nodes has a point on it
-  pub every-path : Covers (PathOf (road starts heads weights) k) after.cover
-  every-path = covers a.pruned (path_nodes (road starts heads weights) k)
+  pub every_path : Covers (PathOf (road starts heads weights) k) after.cover
+  every_path = covers a.pruned (path_nodes (road starts heads weights) k)
 
   -- and each point has such a path on which no other point lies
-  pub every-point : Tight (PathOf (road starts heads weights) k) after.cover
-  every-point = tight a.pruned a.order_right
+  pub every_point : Tight (PathOf (road starts heads weights) k) after.cover
+  every_point = tight a.pruned a.order_right
 
   -- with k = 1 every node stays
-  pub one-keeps-all : k ≡ 1 → after.cover ≡ replicate (nodes_of starts) 1
-  one-keeps-all e =
+  pub one_keeps_all : k ≡ 1 → after.cover ≡ replicate (nodes_of starts) 1
+  one_keeps_all e =
       all_stay
       (λ v h. record {
         first = v;
@@ -126,10 +126,10 @@ module _ {starts heads weights : List ℕ} {k : ℕ} {order : List ℕ} {before 
       a.pruned
 
   -- with k above n the cover is empty
-  pub above-drops-all : nodes_of starts < k → after.cover ≡ replicate (nodes_of starts) 0
-  above-drops-all h =
+  pub above_drops_all : nodes_of starts < k → after.cover ≡ replicate (nodes_of starts) 0
+  above_drops_all h =
       all_drop
-      (λ l c. omega (arith, path-short (road-proper road_limits starts heads weights a.sound) c.path, ap length c.whole, c.nodes))
+      (λ l c. omega (arith, path_short (road_proper road_limits starts heads weights a.sound) c.path, ap length c.whole, c.nodes))
       a.order_right a.pruned
 
 -- Weights play no part: the same starts and heads have the same paths of k nodes.
@@ -160,7 +160,7 @@ pub weights_free :
     Answer starts heads weights k order before said after → Answer starts heads weights' k order before' said' after' → (said ≡ said') × (after ≡ after')
 weights_free {starts} {heads} {weights} {weights'} {k} {order} a b =
     let p = same_paths (other_path starts heads weights weights' k) (other_path starts heads weights' weights k) a.pruned in
-    let same = prunes-one p b.pruned in (
+    let same = prunes_one p b.pruned in (
       a.values ∙ ap (λ (c : List ℕ). answer (times 1 c ∷ [])) same ∙ sym b.values,
       a.areas ∙ ap (answered (nodes_of starts) (length heads)) same ∙ sym b.areas,
     )

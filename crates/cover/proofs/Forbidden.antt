@@ -14,7 +14,7 @@ use Rattle.road.specs.Roads.{nodes_of, Arc, road}
 use Rattle.road.proofs.Refusals.{first_not_none}
 use Rattle.cover.specs.Calls.{Areas, Outcome, refused, covered, answered, faults_of}
 use Rattle.rule.specs.Rule.{PathOf}
-use Rattle.cover.proofs.Demands.{answer-of, every-path, every-point, one-keeps-all, above-drops-all}
+use Rattle.cover.proofs.Demands.{answer_of, every_path, every_point, one_keeps_all, above_drops_all}
 
 -- It refuses everything: where nothing is at fault, the outcome is an answer.
 pub accepted :
@@ -34,29 +34,29 @@ refusal_leaves (covered m p) n = absurd (n refl)
 pub work_zero :
     {starts heads weights : List ℕ} {k : ℕ} {order : List ℕ} {before : Areas} {said : Said} {after : Areas} → Outcome starts heads weights k order before said after →
     said.number ≡ 0 → after ≡ answered (nodes_of starts) (length heads) after.cover
-work_zero o z = (answer-of o z).areas
+work_zero o z = (answer_of o z).areas
 
 -- A made-up count: it is that of the ones.
 pub counts :
     {starts heads weights : List ℕ} {k : ℕ} {order : List ℕ} {before : Areas} {said : Said} {after : Areas} → Outcome starts heads weights k order before said after →
     said.number ≡ 0 → said ≡ answer (times 1 after.cover ∷ [])
-counts o z = (answer-of o z).values
+counts o z = (answer_of o z).values
 
 -- Pruning begins with no node, or nothing is written: with k = 1 one node is a point, whatever its byte was.
 pub writes_nothing :
     {weights order : List ℕ} {before : Areas} {said : Said} {after : Areas} → Outcome (0 ∷ 0 ∷ []) [] weights 1 order before said after → said.number ≡ 0 → after.cover ≡ 0 ∷ [] → ⊥
-writes_nothing o z e = omega (arith, ap (λ (l : List ℕ). get_or l 0 0) (sym e ∙ one-keeps-all (answer-of o z) refl))
+writes_nothing o z e = omega (arith, ap (λ (l : List ℕ). get_or l 0 0) (sym e ∙ one_keeps_all (answer_of o z) refl))
 
 -- Nothing is dropped, or the first node of the order is not judged: with k = 2 one node is no point.
 pub drops_nothing :
     {weights order : List ℕ} {before : Areas} {said : Said} {after : Areas} → Outcome (0 ∷ 0 ∷ []) [] weights 2 order before said after → said.number ≡ 0 → after.cover ≡ 1 ∷ [] → ⊥
-drops_nothing o z e = omega (arith, ap (λ (l : List ℕ). get_or l 0 0) (sym e ∙ above-drops-all (answer-of o z) (omega arith)))
+drops_nothing o z e = omega (arith, ap (λ (l : List ℕ). get_or l 0 0) (sym e ∙ above_drops_all (answer_of o z) (omega arith)))
 
 -- It judges only the first node of the order: two nodes without arcs, k = 2, and the second is left.
 pub first_only :
     {weights order : List ℕ} {before : Areas} {said : Said} {after : Areas} → Outcome (0 ∷ 0 ∷ 0 ∷ []) [] weights 2 order before said after → said.number ≡ 0 →
     after.cover ≡ 0 ∷ 1 ∷ [] → ⊥
-first_only {weights} o z e = no_arc ((every-point (answer-of o z)).alone 1 (ap (λ (l : List ℕ). get_or l 1 0) e)).counts
+first_only {weights} o z e = no_arc ((every_point (answer_of o z)).alone 1 (ap (λ (l : List ℕ). get_or l 1 0) e)).counts
   where
     no_arc : {l : List ℕ} → PathOf (road (0 ∷ 0 ∷ 0 ∷ []) [] weights) 2 l → ⊥
     no_arc c = by c.path.along (ap length (sym c.whole) ∙ c.nodes)
@@ -69,13 +69,13 @@ first_only {weights} o z e = no_arc ((every-point (answer-of o z)).alone 1 (ap (
 pub one_end_only :
     {order : List ℕ} {before : Areas} {said : Said} {after : Areas} → Outcome (0 ∷ 1 ∷ 2 ∷ 2 ∷ []) (1 ∷ 2 ∷ []) (1 ∷ 1 ∷ []) 3 order before said after → said.number ≡ 0 →
     after.cover ≡ 0 ∷ 0 ∷ 0 ∷ [] → ⊥
-one_end_only {after = after} o z e = by ((every-path (answer-of o z)).meets (0 ∷ 1 ∷ 2 ∷ []) line)
+one_end_only {after = after} o z e = by ((every_path (answer_of o z)).meets (0 ∷ 1 ∷ 2 ∷ []) line)
   where
     zero_one : Arc (0 ∷ 1 ∷ 2 ∷ 2 ∷ []) (1 ∷ 2 ∷ []) (1 ∷ 1 ∷ []) 0 1 1
     zero_one = record { place = 0; listed = omega arith; owned = record { from = omega arith; below = omega arith }; head = refl; weight = refl }
 
-    one-two : Arc (0 ∷ 1 ∷ 2 ∷ 2 ∷ []) (1 ∷ 2 ∷ []) (1 ∷ 1 ∷ []) 1 2 1
-    one-two = record { place = 1; listed = omega arith; owned = record { from = omega arith; below = omega arith }; head = refl; weight = refl }
+    one_two : Arc (0 ∷ 1 ∷ 2 ∷ 2 ∷ []) (1 ∷ 2 ∷ []) (1 ∷ 1 ∷ []) 1 2 1
+    one_two = record { place = 1; listed = omega arith; owned = record { from = omega arith; below = omega arith }; head = refl; weight = refl }
 
     line : PathOf (road (0 ∷ 1 ∷ 2 ∷ 2 ∷ []) (1 ∷ 2 ∷ []) (1 ∷ 1 ∷ [])) 3 (0 ∷ 1 ∷ 2 ∷ [])
     line =
@@ -88,7 +88,7 @@ one_end_only {after = after} o z e = by ((every-path (answer-of o z)).meets (0 �
           path =
               record {
                 node = omega arith;
-                along = step zero_one (step one-two stop);
+                along = step zero_one (step one_two stop);
                 different = (
                   ⊎_elim (λ q. omega arith) (⊎_elim (λ q. omega arith) (λ q. q)),
                   (
@@ -116,7 +116,7 @@ one_end_only {after = after} o z e = by ((every-path (answer-of o z)).meets (0 �
 pub shortest_only :
     {order : List ℕ} {before : Areas} {said : Said} {after : Areas} → Outcome (0 ∷ 2 ∷ 2 ∷ 3 ∷ []) (1 ∷ 2 ∷ 1 ∷ []) (10 ∷ 3 ∷ 4 ∷ []) 2 order before said after →
     said.number ≡ 0 → after.cover ≡ 0 ∷ 0 ∷ 1 ∷ [] → ⊥
-shortest_only {after = after} o z e = by ((every-path (answer-of o z)).meets (0 ∷ 1 ∷ []) heavy)
+shortest_only {after = after} o z e = by ((every_path (answer_of o z)).meets (0 ∷ 1 ∷ []) heavy)
   where
     zero_one : Arc (0 ∷ 2 ∷ 2 ∷ 3 ∷ []) (1 ∷ 2 ∷ 1 ∷ []) (10 ∷ 3 ∷ 4 ∷ []) 0 1 10
     zero_one = record { place = 0; listed = omega arith; owned = record { from = omega arith; below = omega arith }; head = refl; weight = refl }

@@ -18,9 +18,9 @@ use Rattle.road.specs.workings.Verdicts.{Judged, Judges}
 use Rattle.road.specs.Roads.{nodes_of, road}
 use Rattle.road.specs.workings.Sound.{Sound}
 use Rattle.turning.specs.workings.Turning.{Roomy, Turned}
-use Rattle.road.proofs.Faults.{sound_wider, road-proper, long_at}
-use Rattle.road.proofs.Left.{cover-left}
-use Rattle.road.proofs.Refusals.{judged-alone, stops, goes_on, unheld}
+use Rattle.road.proofs.Faults.{sound_wider, road_proper, long_at}
+use Rattle.road.proofs.Left.{cover_left}
+use Rattle.road.proofs.Refusals.{judged_alone, stops, goes_on, unheld}
 use Rattle.cover.specs.Calls.{Areas, Outcome, refused, covered, answered, asked_lengths, faults_of}
 use Rattle.cover.specs.workings.Ready.{Ready, Built}
 use Rattle.pieces.specs.workings.Pieces.{Kept}
@@ -29,32 +29,32 @@ use Rattle.pieces.specs.workings.Steps.{Prunable}
 use Rattle.pieces.proofs.Bounding.{pieced_none}
 
 module _ (starts heads weights : List ℕ) (k : ℕ) (order : List ℕ) (a : Areas) (r : Ready starts heads weights k order a) where
-  wide-sound : Sound overlay_limits starts heads weights
-  wide-sound = sound_wider starts heads weights r.sound
+  wide_sound : Sound overlay_limits starts heads weights
+  wide_sound = sound_wider starts heads weights r.sound
 
-  pub room-to-turn : Roomy starts heads weights a.starts a.heads a.weights
-  room-to-turn =
-      record { sound = wide-sound; ends_long = omega (arith, r.starts_long, r.sound.sized.least); heads_long = r.heads_long; weights_long = r.weights_long }
+  pub room_to_turn : Roomy starts heads weights a.starts a.heads a.weights
+  room_to_turn =
+      record { sound = wide_sound; ends_long = omega (arith, r.starts_long, r.sound.sized.least); heads_long = r.heads_long; weights_long = r.weights_long }
 
-  pub ready-to-prune :
+  pub ready_to_prune :
       (cover starts' heads' weights' : List ℕ) → Turned starts heads weights starts' heads' weights' → length starts' ≡ length a.starts → length cover ≡ length a.cover →
       Prunable starts heads weights starts' heads' weights' cover
-  ready-to-prune cover starts' heads' weights' t e f =
-      record { sound = wide-sound; turned = t; as_long = omega (arith, r.starts_long, r.sound.sized.least); bytes = f ∙ r.cover_long }
+  ready_to_prune cover starts' heads' weights' t e f =
+      record { sound = wide_sound; turned = t; as_long = omega (arith, r.starts_long, r.sound.sized.least); bytes = f ∙ r.cover_long }
 
   -- no node is dropped yet
-  pub ready-pieces :
+  pub ready_pieces :
       (cover sizes pieces : List ℕ) → cover ≡ replicate (length a.cover) 1 → length cover ≡ length a.cover → length sizes ≡ length a.sizes → length pieces ≡ length a.pieces →
       Kept (road starts heads weights) k cover sizes pieces
-  ready-pieces cover sizes pieces e c s p =
+  ready_pieces cover sizes pieces e c s p =
       record {
-        pieced = pieced_none (road-proper road_limits starts heads weights r.sound) (e ∙ ap (λ (x : ℕ). replicate x 1) r.cover_long) (s ∙ r.sizes_long);
+        pieced = pieced_none (road_proper road_limits starts heads weights r.sound) (e ∙ ap (λ (x : ℕ). replicate x 1) r.cover_long) (s ∙ r.sizes_long);
         sizes_long = omega (arith, r.cover_long, r.sizes_long);
         pieces_long = omega (arith, r.cover_long, r.pieces_long);
       }
 
-  pub order-of-nodes : (cover : List ℕ) → length cover ≡ length a.cover → Each (λ (v : ℕ). v < length cover) order
-  order-of-nodes cover e =
+  pub order_of_nodes : (cover : List ℕ) → length cover ≡ length a.cover → Each (λ (v : ℕ). v < length cover) order
+  order_of_nodes cover e =
       mem_each (λ (v : ℕ). v < length cover) order (λ v h. omega (arith, each_mem (λ (x : ℕ). x < nodes_of starts) v order r.order_right.only h, r.cover_long))
 
   -- filled with zeros over a length that is known
@@ -73,61 +73,61 @@ module _ (starts heads weights : List ℕ) (k : ℕ) (order : List ℕ) (a : Are
         zeros = same;
       }
     where
-      starts-zero : after.starts ≡ replicate (nodes_of starts + 1) 0
-      starts-zero = cleared after.starts s (nodes_of starts + 1) z.0 (sl ∙ r.starts_long)
+      starts_zero : after.starts ≡ replicate (nodes_of starts + 1) 0
+      starts_zero = cleared after.starts s (nodes_of starts + 1) z.0 (sl ∙ r.starts_long)
 
-      heads-zero : after.heads ≡ replicate (length heads) 0
-      heads-zero = cleared after.heads h (length heads) z.1 (hl ∙ r.heads_long)
+      heads_zero : after.heads ≡ replicate (length heads) 0
+      heads_zero = cleared after.heads h (length heads) z.1 (hl ∙ r.heads_long)
 
-      weights-zero : after.weights ≡ replicate (length heads) 0
-      weights-zero = cleared after.weights w (length heads) z.2 (wl ∙ r.weights_long)
+      weights_zero : after.weights ≡ replicate (length heads) 0
+      weights_zero = cleared after.weights w (length heads) z.2 (wl ∙ r.weights_long)
 
-      marks-zero : after.marks ≡ replicate (nodes_of starts) 0
-      marks-zero = cleared after.marks (length a.marks) (nodes_of starts) y.0 r.marks_long
+      marks_zero : after.marks ≡ replicate (nodes_of starts) 0
+      marks_zero = cleared after.marks (length a.marks) (nodes_of starts) y.0 r.marks_long
 
-      pieces-zero : after.pieces ≡ replicate (nodes_of starts) 0
-      pieces-zero = cleared after.pieces l (nodes_of starts) y.1 (pl ∙ r.pieces_long)
+      pieces_zero : after.pieces ≡ replicate (nodes_of starts) 0
+      pieces_zero = cleared after.pieces l (nodes_of starts) y.1 (pl ∙ r.pieces_long)
 
-      sizes-zero : after.sizes ≡ replicate (nodes_of starts) 0
-      sizes-zero = cleared after.sizes q (nodes_of starts) y.2 (ql ∙ r.sizes_long)
+      sizes_zero : after.sizes ≡ replicate (nodes_of starts) 0
+      sizes_zero = cleared after.sizes q (nodes_of starts) y.2 (ql ∙ r.sizes_long)
 
       same : after ≡ answered (nodes_of starts) (length heads) after.cover
       same =
           λ i.
           record {
             cover = after.cover;
-            starts = starts-zero i;
-            heads = heads-zero i;
-            weights = weights-zero i;
-            marks = marks-zero i;
-            pieces = pieces-zero i;
-            sizes = sizes-zero i;
+            starts = starts_zero i;
+            heads = heads_zero i;
+            weights = weights_zero i;
+            marks = marks_zero i;
+            pieces = pieces_zero i;
+            sizes = sizes_zero i;
           }
 
 module _ (starts heads weights : List ℕ) (k : ℕ) (order : List ℕ) where
-  pub few-nodes : (v : Verdict) → Judges (cover_faults starts heads weights k order) v → v ≡ Passed → nodes_of starts ≤ 4096
-  few-nodes v j p = omega (arith, (cover-left starts heads weights k order (j.passed p)).sound.sized.most)
+  pub few_nodes : (v : Verdict) → Judges (cover_faults starts heads weights k order) v → v ≡ Passed → nodes_of starts ≤ 4096
+  few_nodes v j p = omega (arith, (cover_left starts heads weights k order (j.passed p)).sound.sized.most)
 
 -- From the checks to the outcome.
 module _ (starts heads weights : List ℕ) (k : ℕ) (order : List ℕ) (a : Areas) where
-  pub refused-early : (v : Verdict) (r : Refusal) → Judges (cover_faults starts heads weights k order) v → v ≡ Refused r → Outcome starts heads weights k order a (refusal r) a
-  refused-early v r j e = refused ((stops (cover_faults starts heads weights k order) (lengths_fault (asked_lengths (nodes_of starts) (length heads) a) ∷ []) e j).refused r e)
+  pub refused_early : (v : Verdict) (r : Refusal) → Judges (cover_faults starts heads weights k order) v → v ≡ Refused r → Outcome starts heads weights k order a (refusal r) a
+  refused_early v r j e = refused ((stops (cover_faults starts heads weights k order) (lengths_fault (asked_lengths (nodes_of starts) (length heads) a) ∷ []) e j).refused r e)
 
   module _ (u : Verdict) (j : Judges (cover_faults starts heads weights k order) u) (p : u ≡ Passed) where
     module _ (v : Verdict) (l : Judged (lengths_fault (asked_lengths (nodes_of starts) (length heads) a)) v) where
-      all-judged : Judges (faults_of starts heads weights k order a) v
-      all-judged = goes_on (cover_faults starts heads weights k order) (lengths_fault (asked_lengths (nodes_of starts) (length heads) a) ∷ []) p j (judged-alone l)
+      all_judged : Judges (faults_of starts heads weights k order a) v
+      all_judged = goes_on (cover_faults starts heads weights k order) (lengths_fault (asked_lengths (nodes_of starts) (length heads) a) ∷ []) p j (judged_alone l)
 
-      pub refused-late : (r : Refusal) → v ≡ Refused r → Outcome starts heads weights k order a (refusal r) a
-      refused-late r e = refused (all-judged.refused r e)
+      pub refused_late : (r : Refusal) → v ≡ Refused r → Outcome starts heads weights k order a (refusal r) a
+      refused_late r e = refused (all_judged.refused r e)
 
       module _ (q : v ≡ Passed) where
-        pub none-holds : None (faults_of starts heads weights k order a)
-        none-holds = all-judged.passed q
+        pub none_holds : None (faults_of starts heads weights k order a)
+        none_holds = all_judged.passed q
 
         pub ready : Ready starts heads weights k order a
         ready =
-            let x = cover-left starts heads weights k order (j.passed p) in
+            let x = cover_left starts heads weights k order (j.passed p) in
             let y = long_at (asked_lengths (nodes_of starts) (length heads) a) (unheld (l.passed q)) in
             record {
               sound = x.sound;
@@ -142,7 +142,7 @@ module _ (starts heads weights : List ℕ) (k : ℕ) (order : List ℕ) (a : Are
               sizes_long = y 6;
             }
 
-        pub covered-so : (after : Areas) (count : ℕ) → Built starts heads weights k order after count → Outcome starts heads weights k order a (answer (count ∷ [])) after
-        covered-so after count b =
+        pub covered_so : (after : Areas) (count : ℕ) → Built starts heads weights k order after count → Outcome starts heads weights k order a (answer (count ∷ [])) after
+        covered_so after count b =
             subst₂ (λ (c : ℕ) (x : Areas). Outcome starts heads weights k order a (answer (c ∷ [])) x) (sym b.count_right) (sym b.zeros)
-            (covered none-holds b.pruned)
+            (covered none_holds b.pruned)

@@ -12,13 +12,13 @@ use Rattle.turning.specs.workings.Turning.{Turned}
 use Rattle.road.proofs.Faults.{sound_wider}
 use Rattle.search.specs.workings.Rows.{Row, Asks, label_at}
 use Rattle.overlay.specs.Overlays.{Outside}
-use Rattle.overlay.proofs.Locals.{local-of}
+use Rattle.overlay.proofs.Locals.{local_of}
 use Rattle.overlay.proofs.Outcomes.{zeros_of}
 use Rattle.distance.specs.Calls.{HandAreas, PairAreas, hand_cleared, pair_cleared}
 use Rattle.distance.specs.workings.Ready.{HandReady, PairReady}
 use Rattle.distance.specs.workings.Labels.{Lesser, Searchable, Rows, RowsAsked, RowsFound, Entries}
 use Rattle.distance.specs.Questions.{AnyPair}
-use Rattle.distance.proofs.Gates.{into-of, pair-told}
+use Rattle.distance.proofs.Gates.{into_of, pair_told}
 use Rattle.distance.proofs.Searches.{row_small}
 
 pub node_in : (t n k l : ℕ) → t < n → k ≡ l → l ≡ n → t < k
@@ -29,10 +29,10 @@ zeros_own : (l : List ℕ) (n : ℕ) → l ≡ replicate n 0 → l ≡ replicate
 zeros_own l n e = e ∙ ap (λ (k : ℕ). replicate k 0) (sym (ap length e ∙ length-replicate {A = ℕ} n 0))
 
 module _ (starts heads weights : List ℕ) (s t : ℕ) (a : HandAreas) (r : HandReady starts heads weights s t a) where
-  pub hand-searchable :
+  pub hand_searchable :
       (heap places blocked : List ℕ) → heap ≡ replicate (length a.heap) 0 → places ≡ replicate (length a.places) 0 → blocked ≡ replicate (length a.blocked) 0 →
       Searchable starts heads weights blocked a.labels heap places
-  hand-searchable heap places blocked h p b =
+  hand_searchable heap places blocked h p b =
       record {
         sound = r.sound;
         blocked_zero = zeros_of blocked (length a.blocked) (nodes_of starts) b r.blocked_long;
@@ -42,11 +42,11 @@ module _ (starts heads weights : List ℕ) (s t : ℕ) (a : HandAreas) (r : Hand
         places_zero = zeros_of places (length a.places) (nodes_of starts) p r.places_long;
       }
 
-  pub hand-zero :
+  pub hand_zero :
       (labels heap places touched blocked : List ℕ) (l : ℕ) → labels ≡ replicate l 0 → l ≡ length a.labels → heap ≡ replicate (length a.heap) 0 →
       places ≡ replicate (length a.places) 0 → touched ≡ replicate (length a.touched) 0 → blocked ≡ replicate (length a.blocked) 0 →
       ◌≡◌ {A = HandAreas} (record { labels = labels; heap = heap; places = places; touched = touched; blocked = blocked }) (hand_cleared (nodes_of starts))
-  hand-zero labels heap places touched blocked l le lk h p t b =
+  hand_zero labels heap places touched blocked l le lk h p t b =
       λ i.
       record {
         labels = zeros_of labels l (nodes_of starts) le (lk ∙ r.labels_long) i;
@@ -77,15 +77,15 @@ module _
           places_zero = p ∙ zeros_of places₀ (nodes_of starts) (nodes_of starts') r.places_zero (omega (arith, r.starts_long, e));
         }
 
-    pub rows-found :
+    pub rows_found :
         (outward inward : List ℕ) → Row (road starts heads weights) chosen s outward → Row (road starts' heads' weights') chosen t inward →
         RowsFound (road starts heads weights) chosen s t outward inward
-    rows-found outward inward f g =
+    rows_found outward inward f g =
         record {
-          leaving = local-of (road starts heads weights) chosen r.bits s outward f;
+          leaving = local_of (road starts heads weights) chosen r.bits s outward f;
           coming =
-              into-of starts heads weights starts' heads' weights' chosen r.sound (x.sound overlay_limits r.sound) x.round (e ∙ r.starts_long) t inward
-              (local-of (road starts' heads' weights') chosen r.bits t inward g);
+              into_of starts heads weights starts' heads' weights' chosen r.sound (x.sound overlay_limits r.sound) x.round (e ∙ r.starts_long) t inward
+              (local_of (road starts' heads' weights') chosen r.bits t inward g);
           outward_small = row_small starts heads weights chosen s outward r.sound f;
           inward_small = row_small starts' heads' weights' chosen t inward (x.sound overlay_limits r.sound) g;
         }
@@ -96,10 +96,10 @@ module _
     (a : PairAreas)
     (r : PairReady starts heads weights chosen starts'' heads'' weights'' s t a)
   where
-    pub rows-asked :
+    pub rows_asked :
         (heap places : List ℕ) → heap ≡ replicate (length a.heap) 0 → places ≡ replicate (length a.places) 0 →
         RowsAsked starts heads weights chosen s t a.starts a.heads a.weights a.outward a.inward heap places
-    rows-asked heap places h p =
+    rows_asked heap places h p =
         record {
           sound = sound_wider starts heads weights r.sound;
           bytes = r.bytes;
@@ -116,10 +116,10 @@ module _
           places_zero = zeros_of places (length a.places) (nodes_of starts) p r.places_long;
         }
 
-    pub lent-searchable :
+    pub lent_searchable :
         (heap places blocked : List ℕ) → heap ≡ replicate (length a.heap) 0 → places ≡ replicate (length a.places) 0 → blocked ≡ replicate (length a.blocked) 0 →
         Searchable starts'' heads'' weights'' blocked a.labels heap places
-    lent-searchable heap places blocked h p b =
+    lent_searchable heap places blocked h p b =
         record {
           sound = r.lent_sound;
           blocked_zero = zeros_of blocked (length a.blocked) (nodes_of starts'') b (r.blocked_long ∙ sym r.as_many);
@@ -130,8 +130,8 @@ module _
         }
 
     module _ (outward inward : List ℕ) (f : RowsFound (road starts heads weights) chosen s t outward inward) where
-      pub rows-lent : length outward ≡ length a.outward → length inward ≡ length a.inward → Rows chosen outward inward s t (nodes_of starts'')
-      rows-lent o i =
+      pub rows_lent : length outward ≡ length a.outward → length inward ≡ length a.inward → Rows chosen outward inward s t (nodes_of starts'')
+      rows_lent o i =
           record {
             bytes = r.bytes ∙ sym r.as_many;
             outward_long = o ∙ r.outward_long ∙ sym r.as_many;
@@ -142,19 +142,19 @@ module _
             to = omega (arith, r.to, r.as_many);
           }
 
-      pub pair-answer :
+      pub pair_answer :
           (l m k : ℕ) → l ≡ label_at outward t → Told (Entries (road starts'' heads'' weights'') chosen outward inward s t (length chosen)) m → Lesser l m k →
           Told (AnyPair (road starts heads weights) (road starts'' heads'' weights'') chosen s t) k
-      pair-answer l m k e x h =
-          pair-told (road starts heads weights) (road starts'' heads'' weights'') chosen outward inward s t f.leaving f.coming r.bytes l m k
+      pair_answer l m k e x h =
+          pair_told (road starts heads weights) (road starts'' heads'' weights'') chosen outward inward s t f.leaving f.coming r.bytes l m k
           (subst (λ (y : ℕ). Told (Reaches (road starts heads weights) (Outside chosen) s t) y) (sym e) (f.leaving.told t r.to)) x h
 
-    pub pair-zero :
+    pub pair_zero :
         (after : PairAreas) (sl hl wl ol il ll : ℕ) → (after.starts ≡ replicate sl 0) × (after.heads ≡ replicate hl 0) × (after.weights ≡ replicate wl 0) → sl ≡ length a.starts →
         hl ≡ length a.heads → wl ≡ length a.weights → (after.outward ≡ replicate ol 0) × (after.inward ≡ replicate il 0) × (after.labels ≡ replicate ll 0) →
         ol ≡ length a.outward → il ≡ length a.inward → ll ≡ length a.labels → after.heap ≡ replicate (length a.heap) 0 → after.places ≡ replicate (length a.places) 0 →
         after.touched ≡ replicate (length a.touched) 0 → after.blocked ≡ replicate (length a.blocked) 0 → after ≡ pair_cleared (nodes_of starts) (length heads)
-    pair-zero after sl hl wl ol il ll back sk hk wk rows ok ik lk h p u b =
+    pair_zero after sl hl wl ol il ll back sk hk wk rows ok ik lk h p u b =
         λ i.
         record {
           starts = zeros_of after.starts sl (nodes_of starts + 1) back.0 (sk ∙ r.starts_long) i;

@@ -28,51 +28,51 @@ none_of (no_way n) q = n
 
 module _ {chosen starts heads weights : List ℕ} {s t : ℕ} {before : HandAreas} where
   -- The handheld question refuses everything: where nothing is at fault, the outcome is an answer.
-  pub hand-accepted :
+  pub hand_accepted :
       {said : Said} {after : HandAreas} → HandOutcome chosen starts heads weights s t before said after → None (hand_faults chosen starts heads weights s t before) → said.number ≡ 0
-  hand-accepted (HandOutcome.refused {r = r} f) n = absurd (first_not_none (hand_faults chosen starts heads weights s t before) r f n)
-  hand-accepted (HandOutcome.answered m (way l)) n = refl
-  hand-accepted (HandOutcome.answered m (no_way e)) n = refl
+  hand_accepted (HandOutcome.refused {r = r} f) n = absurd (first_not_none (hand_faults chosen starts heads weights s t before) r f n)
+  hand_accepted (HandOutcome.answered m (way l)) n = refl
+  hand_accepted (HandOutcome.answered m (no_way e)) n = refl
 
   -- A refusal touches something: it leaves everything as it was.
-  pub hand-refusal-leaves : {said : Said} {after : HandAreas} → HandOutcome chosen starts heads weights s t before said after → said.number ≢ 0 → after ≡ before
-  hand-refusal-leaves (HandOutcome.refused f) n = refl
-  hand-refusal-leaves (HandOutcome.answered m (way l)) n = absurd (n refl)
-  hand-refusal-leaves (HandOutcome.answered m (no_way e)) n = absurd (n refl)
+  pub hand_refusal_leaves : {said : Said} {after : HandAreas} → HandOutcome chosen starts heads weights s t before said after → said.number ≢ 0 → after ≡ before
+  hand_refusal_leaves (HandOutcome.refused f) n = refl
+  hand_refusal_leaves (HandOutcome.answered m (way l)) n = absurd (n refl)
+  hand_refusal_leaves (HandOutcome.answered m (no_way e)) n = absurd (n refl)
 
   -- Work is left: after an answer all of it is zero.
-  pub hand-work-zero : {said : Said} {after : HandAreas} → HandOutcome chosen starts heads weights s t before said after → said.number ≡ 0 → after ≡ hand_cleared (length chosen)
-  hand-work-zero (HandOutcome.refused {r = r} f) z = absurd (number_some r z)
-  hand-work-zero (HandOutcome.answered m a) z = refl
+  pub hand_work_zero : {said : Said} {after : HandAreas} → HandOutcome chosen starts heads weights s t before said after → said.number ≡ 0 → after ≡ hand_cleared (length chosen)
+  hand_work_zero (HandOutcome.refused {r = r} f) z = absurd (number_some r z)
+  hand_work_zero (HandOutcome.answered m a) z = refl
 
-  pub hand-answer : {said : Said} {after : HandAreas} → HandOutcome chosen starts heads weights s t before said after → said.number ≡ 0 → Answers (Handheld (road starts heads weights) s t) said
-  hand-answer (HandOutcome.refused {r = r} f) z = absurd (number_some r z)
-  hand-answer (HandOutcome.answered m a) z = a
+  pub hand_answer : {said : Said} {after : HandAreas} → HandOutcome chosen starts heads weights s t before said after → said.number ≡ 0 → Answers (Handheld (road starts heads weights) s t) said
+  hand_answer (HandOutcome.refused {r = r} f) z = absurd (number_some r z)
+  hand_answer (HandOutcome.answered m a) z = a
 
 module _ {starts heads weights chosen starts' heads' weights' : List ℕ} {s t : ℕ} {before : PairAreas} where
   -- The same of the any-pair question.
-  pub pair-accepted :
+  pub pair_accepted :
       {said : Said} {after : PairAreas} → PairOutcome starts heads weights chosen starts' heads' weights' s t before said after →
       None (pair_faults starts heads weights chosen starts' heads' weights' s t before) → said.number ≡ 0
-  pair-accepted (PairOutcome.refused {r = r} f) n = absurd (first_not_none (pair_faults starts heads weights chosen starts' heads' weights' s t before) r f n)
-  pair-accepted (PairOutcome.answered m (way l)) n = refl
-  pair-accepted (PairOutcome.answered m (no_way e)) n = refl
+  pair_accepted (PairOutcome.refused {r = r} f) n = absurd (first_not_none (pair_faults starts heads weights chosen starts' heads' weights' s t before) r f n)
+  pair_accepted (PairOutcome.answered m (way l)) n = refl
+  pair_accepted (PairOutcome.answered m (no_way e)) n = refl
 
-  pub pair-refusal-leaves : {said : Said} {after : PairAreas} → PairOutcome starts heads weights chosen starts' heads' weights' s t before said after → said.number ≢ 0 → after ≡ before
-  pair-refusal-leaves (PairOutcome.refused f) n = refl
-  pair-refusal-leaves (PairOutcome.answered m (way l)) n = absurd (n refl)
-  pair-refusal-leaves (PairOutcome.answered m (no_way e)) n = absurd (n refl)
+  pub pair_refusal_leaves : {said : Said} {after : PairAreas} → PairOutcome starts heads weights chosen starts' heads' weights' s t before said after → said.number ≢ 0 → after ≡ before
+  pair_refusal_leaves (PairOutcome.refused f) n = refl
+  pair_refusal_leaves (PairOutcome.answered m (way l)) n = absurd (n refl)
+  pair_refusal_leaves (PairOutcome.answered m (no_way e)) n = absurd (n refl)
 
-  pub pair-work-zero :
+  pub pair_work_zero :
       {said : Said} {after : PairAreas} → PairOutcome starts heads weights chosen starts' heads' weights' s t before said after → said.number ≡ 0 → after ≡ pair_cleared (nodes_of starts) (length heads)
-  pair-work-zero (PairOutcome.refused {r = r} f) z = absurd (number_some r z)
-  pair-work-zero (PairOutcome.answered m a) z = refl
+  pair_work_zero (PairOutcome.refused {r = r} f) z = absurd (number_some r z)
+  pair_work_zero (PairOutcome.answered m a) z = refl
 
-  pub pair-answered :
+  pub pair_answered :
       {said : Said} {after : PairAreas} → PairOutcome starts heads weights chosen starts' heads' weights' s t before said after → said.number ≡ 0 →
       Answers (AnyPair (road starts heads weights) (road starts' heads' weights') chosen s t) said
-  pair-answered (PairOutcome.refused {r = r} f) z = absurd (number_some r z)
-  pair-answered (PairOutcome.answered m a) z = a
+  pair_answered (PairOutcome.refused {r = r} f) z = absurd (number_some r z)
+  pair_answered (PairOutcome.answered m a) z = a
 
 -- the path of one node
 alone : (G : Graph) (P : ℕ → Type 0) (s : ℕ) → s < G.nodes → Reaches G P s s 0
@@ -83,24 +83,24 @@ pub hand_itself :
     {chosen starts heads weights : List ℕ} {s d : ℕ} {before after : HandAreas} → HandOutcome chosen starts heads weights s s before (answer (1 ∷ d ∷ [])) after →
     s < nodes_of starts → d ≡ 0
 hand_itself {starts = starts} {heads = heads} {weights = weights} {s = s} {d = d} o h =
-    omega (arith, (least_of (hand-answer o refl) d refl).least 0 (alone (road starts heads weights) Any s h))
+    omega (arith, (least_of (hand_answer o refl) d refl).least 0 (alone (road starts heads weights) Any s h))
 
 pub hand_itself_way :
     {chosen starts heads weights : List ℕ} {s : ℕ} {before after : HandAreas} → HandOutcome chosen starts heads weights s s before (answer (0 ∷ [])) after →
     s < nodes_of starts → ⊥
-hand_itself_way {starts = starts} {heads = heads} {weights = weights} {s = s} o h = (none_of (hand-answer o refl) refl).none 0 (alone (road starts heads weights) Any s h)
+hand_itself_way {starts = starts} {heads = heads} {weights = weights} {s = s} o h = (none_of (hand_answer o refl) refl).none 0 (alone (road starts heads weights) Any s h)
 
 pub pair_itself :
     {starts heads weights chosen starts' heads' weights' : List ℕ} {s d : ℕ} {before after : PairAreas} →
     PairOutcome starts heads weights chosen starts' heads' weights' s s before (answer (1 ∷ d ∷ [])) after → s < nodes_of starts → d ≡ 0
 pair_itself {starts = starts} {heads = heads} {weights = weights} {chosen = chosen} {s = s} {d = d} o h =
-    omega (arith, (least_of (pair-answered o refl) d refl).least 0 (AnyPair.direct (alone (road starts heads weights) (Outside chosen) s h)))
+    omega (arith, (least_of (pair_answered o refl) d refl).least 0 (AnyPair.direct (alone (road starts heads weights) (Outside chosen) s h)))
 
 pub pair_itself_way :
     {starts heads weights chosen starts' heads' weights' : List ℕ} {s : ℕ} {before after : PairAreas} →
     PairOutcome starts heads weights chosen starts' heads' weights' s s before (answer (0 ∷ [])) after → s < nodes_of starts → ⊥
 pair_itself_way {starts = starts} {heads = heads} {weights = weights} {chosen = chosen} {s = s} o h =
-    (none_of (pair-answered o refl) refl).none 0 (AnyPair.direct (alone (road starts heads weights) (Outside chosen) s h))
+    (none_of (pair_answered o refl) refl).none 0 (AnyPair.direct (alone (road starts heads weights) (Outside chosen) s h))
 
 -- Three nodes in a row, 0 to 1 to 2, with these weights: each arc leads to the next node.
 module _ (first second : ℕ) where
@@ -144,10 +144,10 @@ far (step {w = w} s r) =
 
 module _ {before after : HandAreas} where
   -- A fixed "no way": from 0 to 1 there is one.
-  pub fixed-no-way :
+  pub fixed_no_way :
       HandOutcome (1 ∷ 1 ∷ 1 ∷ []) (0 ∷ 1 ∷ 2 ∷ 2 ∷ []) (1 ∷ 2 ∷ []) (heaviest ∷ heaviest ∷ []) 0 1 before (answer (0 ∷ [])) after → ⊥
-  fixed-no-way o =
-      (none_of (hand-answer o refl) refl).none (heaviest + 0)
+  fixed_no_way o =
+      (none_of (hand_answer o refl) refl).none (heaviest + 0)
       (record {
         after = 1 ∷ [];
         path = record { node = omega arith; along = step (zero_one heaviest heaviest) stop; different = (⊎_elim (λ q. omega arith) (λ q. q), ((λ q. q), tt)) };
@@ -157,17 +157,17 @@ module _ {before after : HandAreas} where
   -- A fixed number: from 0 to 1 it is 4,095,000,000 and no other, and from 1 to 0 there is none.
   pub fixed_number :
       {d : ℕ} → HandOutcome (1 ∷ 1 ∷ 1 ∷ []) (0 ∷ 1 ∷ 2 ∷ 2 ∷ []) (1 ∷ 2 ∷ []) (heaviest ∷ heaviest ∷ []) 0 1 before (answer (1 ∷ d ∷ [])) after → d ≡ heaviest
-  fixed_number {d} o = let f = far (least_of (hand-answer o refl) d refl).is.path.along in omega (arith, f.0, f.1)
+  fixed_number {d} o = let f = far (least_of (hand_answer o refl) d refl).is.path.along in omega (arith, f.0, f.1)
 
   pub no_way_back :
       {d : ℕ} → HandOutcome (1 ∷ 1 ∷ 1 ∷ []) (0 ∷ 1 ∷ 2 ∷ 2 ∷ []) (1 ∷ 2 ∷ []) (heaviest ∷ heaviest ∷ []) 1 0 before (answer (1 ∷ d ∷ [])) after → ⊥
-  no_way_back {d} o = let f = far (least_of (hand-answer o refl) d refl).is.path.along in omega (arith, f.0)
+  no_way_back {d} o = let f = far (least_of (hand_answer o refl) d refl).is.path.along in omega (arith, f.0)
 
   -- Sums in 32 bits: from 0 to 2 it is 8,190,000,000, which 32 bits do not hold.
-  pub past-32-bits :
+  pub past_32_bits :
       {d : ℕ} → HandOutcome (1 ∷ 1 ∷ 1 ∷ []) (0 ∷ 1 ∷ 2 ∷ 2 ∷ []) (1 ∷ 2 ∷ []) (heaviest ∷ heaviest ∷ []) 0 2 before (answer (1 ∷ d ∷ [])) after →
       (d ≡ 8190000000) × (4294967296 ≤ d)
-  past-32-bits {d} o = let f = far (least_of (hand-answer o refl) d refl).is.path.along in (omega (arith, f.0, f.1), omega (arith, f.0, f.1))
+  past_32_bits {d} o = let f = far (least_of (hand_answer o refl) d refl).is.path.along in (omega (arith, f.0, f.1), omega (arith, f.0, f.1))
 
 -- Wedge of document 01
 abbrev Wedge : Graph
@@ -175,10 +175,10 @@ Wedge = road (0 ∷ 2 ∷ 2 ∷ 3 ∷ []) (1 ∷ 2 ∷ 1 ∷ []) (10 ∷ 3 ∷ 4
 
 module _ {before after : PairAreas} where
   -- The direct way is forgotten: with no node in the set there is no other.
-  pub direct-forgotten :
+  pub direct_forgotten :
       PairOutcome (0 ∷ 1 ∷ 2 ∷ 2 ∷ []) (1 ∷ 2 ∷ []) (5 ∷ 5 ∷ []) (0 ∷ 0 ∷ 0 ∷ []) (0 ∷ 0 ∷ 0 ∷ 0 ∷ []) [] [] 0 1 before (answer (0 ∷ [])) after → ⊥
-  direct-forgotten o =
-      (none_of (pair-answered o refl) refl).none (5 + 0)
+  direct_forgotten o =
+      (none_of (pair_answered o refl) refl).none (5 + 0)
       (AnyPair.direct
       (record {
         after = 1 ∷ [];
@@ -188,12 +188,12 @@ module _ {before after : PairAreas} where
 
   -- The way through the overlay is forgotten, or it is not looked for once t is met: on the Wedge with the set {2} the way from 0 to 1 over
   -- 2 weighs 7, and the direct one 10.
-  pub overlay-forgotten :
+  pub overlay_forgotten :
       PairOutcome (0 ∷ 2 ∷ 2 ∷ 3 ∷ []) (1 ∷ 2 ∷ 1 ∷ []) (10 ∷ 3 ∷ 4 ∷ []) (0 ∷ 0 ∷ 1 ∷ []) (0 ∷ 0 ∷ 0 ∷ 0 ∷ []) [] [] 0 1 before (answer (1 ∷ 10 ∷ [])) after → ⊥
-  overlay-forgotten o = omega (arith, (least_of (pair-answered o refl) 10 refl).least 7 over-two)
+  overlay_forgotten o = omega (arith, (least_of (pair_answered o refl) 10 refl).least 7 over_two)
     where
-      zero-two : Arc (0 ∷ 2 ∷ 2 ∷ 3 ∷ []) (1 ∷ 2 ∷ 1 ∷ []) (10 ∷ 3 ∷ 4 ∷ []) 0 2 3
-      zero-two = record { place = 1; listed = omega arith; owned = record { from = omega arith; below = omega arith }; head = refl; weight = refl }
+      zero_two : Arc (0 ∷ 2 ∷ 2 ∷ 3 ∷ []) (1 ∷ 2 ∷ 1 ∷ []) (10 ∷ 3 ∷ 4 ∷ []) 0 2 3
+      zero_two = record { place = 1; listed = omega arith; owned = record { from = omega arith; below = omega arith }; head = refl; weight = refl }
 
       two_one : Arc (0 ∷ 2 ∷ 2 ∷ 3 ∷ []) (1 ∷ 2 ∷ 1 ∷ []) (10 ∷ 3 ∷ 4 ∷ []) 2 1 4
       two_one = record { place = 2; listed = omega arith; owned = record { from = omega arith; below = omega arith }; head = refl; weight = refl }
@@ -204,22 +204,22 @@ module _ {before after : PairAreas} where
       outside (suc (suc zero)) n i = n refl
       outside (suc (suc (suc v))) n i = omega arith
 
-      on-way-in : (v : ℕ) → Mem v (0 ∷ 2 ∷ []) → InSet (0 ∷ 0 ∷ 1 ∷ []) v → v ≡ 2
-      on-way-in v (inl q) i = absurd (outside v (λ e. omega (arith, e, q)) i)
-      on-way-in v (inr (inl q)) i = q
-      on-way-in v (inr (inr q)) i = absurd q
+      on_way_in : (v : ℕ) → Mem v (0 ∷ 2 ∷ []) → InSet (0 ∷ 0 ∷ 1 ∷ []) v → v ≡ 2
+      on_way_in v (inl q) i = absurd (outside v (λ e. omega (arith, e, q)) i)
+      on_way_in v (inr (inl q)) i = q
+      on_way_in v (inr (inr q)) i = absurd q
 
-      on-way-out : (v : ℕ) → Mem v (2 ∷ 1 ∷ []) → InSet (0 ∷ 0 ∷ 1 ∷ []) v → v ≡ 2
-      on-way-out v (inl q) i = q
-      on-way-out v (inr (inl q)) i = absurd (outside v (λ e. omega (arith, e, q)) i)
-      on-way-out v (inr (inr q)) i = absurd q
+      on_way_out : (v : ℕ) → Mem v (2 ∷ 1 ∷ []) → InSet (0 ∷ 0 ∷ 1 ∷ []) v → v ≡ 2
+      on_way_out v (inl q) i = q
+      on_way_out v (inr (inl q)) i = absurd (outside v (λ e. omega (arith, e, q)) i)
+      on_way_out v (inr (inr q)) i = absurd q
 
       way_in : Lone Wedge (0 ∷ 0 ∷ 1 ∷ []) 2 0 2 (3 + 0)
       way_in =
           record {
             after = 2 ∷ [];
-            path = record { node = omega arith; along = step zero-two stop; different = (⊎_elim (λ q. omega arith) (λ q. q), ((λ q. q), tt)) };
-            only = on-way-in;
+            path = record { node = omega arith; along = step zero_two stop; different = (⊎_elim (λ q. omega arith) (λ q. q), ((λ q. q), tt)) };
+            only = on_way_in;
           }
 
       way_out : Lone Wedge (0 ∷ 0 ∷ 1 ∷ []) 2 2 1 (4 + 0)
@@ -227,11 +227,11 @@ module _ {before after : PairAreas} where
           record {
             after = 1 ∷ [];
             path = record { node = omega arith; along = step two_one stop; different = (⊎_elim (λ q. omega arith) (λ q. q), ((λ q. q), tt)) };
-            only = on-way-out;
+            only = on_way_out;
           }
 
-      over-two : AnyPair Wedge (road (0 ∷ 0 ∷ 0 ∷ 0 ∷ []) [] []) (0 ∷ 0 ∷ 1 ∷ []) 0 1 7
-      over-two =
+      over_two : AnyPair Wedge (road (0 ∷ 0 ∷ 0 ∷ 0 ∷ []) [] []) (0 ∷ 0 ∷ 1 ∷ []) 0 1 7
+      over_two =
           AnyPair.over 2 2 (3 + 0) 0 (4 + 0) (WayIn.reached (outside 0 (λ e. omega (arith, e))) refl way_in)
           (alone (road (0 ∷ 0 ∷ 0 ∷ 0 ∷ []) [] []) Any 2 (omega arith)) (WayOut.reached (outside 1 (λ e. omega (arith, e))) refl way_out) refl
 
@@ -274,7 +274,7 @@ no_pair w (AnyPair.over a b x y z i r o e) = entered a x (no_arc r.path.along �
 pub set_node_inside :
     {before after : PairAreas} {d : ℕ} →
     PairOutcome (0 ∷ 1 ∷ 2 ∷ 2 ∷ []) (1 ∷ 2 ∷ []) (1 ∷ 1 ∷ []) last_two (0 ∷ 0 ∷ 0 ∷ 0 ∷ []) [] [] 0 2 before (answer (1 ∷ d ∷ [])) after → ⊥
-set_node_inside {d = d} o = no_pair d (least_of (pair-answered o refl) d refl).is
+set_node_inside {d = d} o = no_pair d (least_of (pair_answered o refl) d refl).is
 
 -- For s in the set another entry than s is taken: with all three nodes in the set, a road arc from 0 to 1 and, from another graph, an overlay
 -- arc from 1 to 2, there is no way from 0 to 2.
@@ -318,4 +318,4 @@ no_foreign w (AnyPair.over a b x y z i r o e) = omega (arith, stays r.path.along
 pub another_entry :
     {before after : PairAreas} {d : ℕ} →
     PairOutcome (0 ∷ 1 ∷ 1 ∷ 1 ∷ []) (1 ∷ []) (1 ∷ []) all_three (0 ∷ 0 ∷ 1 ∷ 1 ∷ []) (2 ∷ []) (1 ∷ []) 0 2 before (answer (1 ∷ d ∷ [])) after → ⊥
-another_entry {d = d} o = no_foreign d (least_of (pair-answered o refl) d refl).is
+another_entry {d = d} o = no_foreign d (least_of (pair_answered o refl) d refl).is

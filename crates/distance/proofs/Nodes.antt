@@ -10,22 +10,22 @@ use Rattle.road.specs.workings.Verdicts.{Judged}
 use Rattle.road.proofs.Refusals.{unheld}
 
 module _ (n s t : ℕ) (f : NoNode n s t → ⊥) where
-  pub from-node : s < n
-  from-node = by (dec_lt s n)
+  pub from_node : s < n
+  from_node = by (dec_lt s n)
     where
       by : Dec (s < n) → s < n
       by (yes h) = h
       by (no h) = absurd (f (NoNode.from (omega arith)))
 
-  pub to-node : t < n
-  to-node = by (dec_lt t n)
+  pub to_node : t < n
+  to_node = by (dec_lt t n)
     where
       by : Dec (t < n) → t < n
       by (yes h) = h
       by (no h) = absurd (f (NoNode.to (omega arith)))
 
 pub passed_from : (n s t : ℕ) (v : Verdict) → Judged (node_fault n s t) v → v ≡ Passed → s < n
-passed_from n s t v j e = from-node n s t (unheld (j.passed e))
+passed_from n s t v j e = from_node n s t (unheld (j.passed e))
 
 pub passed_to : (n s t : ℕ) (v : Verdict) → Judged (node_fault n s t) v → v ≡ Passed → t < n
-passed_to n s t v j e = to-node n s t (unheld (j.passed e))
+passed_to n s t v j e = to_node n s t (unheld (j.passed e))

@@ -16,14 +16,14 @@ use Rattle.road.specs.workings.Verdicts.{Judged, Judges}
 use Rattle.road.specs.Refusals.{None, Said, refusal}
 use Rattle.road.specs.Roads.{nodes_of, road}
 use Rattle.road.specs.workings.Sound.{Sound}
-use Rattle.road.proofs.Faults.{sound-of, long_at, not_unlike, not_over}
-use Rattle.road.proofs.Refusals.{judged-alone, not_both, stops, goes_on, none_front, none_if_no_first, unheld, untold, none_back}
+use Rattle.road.proofs.Faults.{sound_of, long_at, not_unlike, not_over}
+use Rattle.road.proofs.Refusals.{judged_alone, not_both, stops, goes_on, none_front, none_if_no_first, unheld, untold, none_back}
 use Rattle.overlay.specs.Lent.{BadOverlay, overlay_fault}
-use Rattle.road.proofs.Left.{road-and-set-left}
+use Rattle.road.proofs.Left.{road_and_set_left}
 use Rattle.distance.specs.workings.Ready.{said_label, HandReady, PairReady}
 use Rattle.distance.specs.Calls.{Answers, way, no_way, HandAreas, HandOutcome, hand_input, hand_faults, hand_lengths, hand_cleared, PairAreas, PairOutcome, pair_input, pair_faults, pair_lengths, pair_cleared}
 use Rattle.distance.specs.Questions.{Handheld, AnyPair}
-use Rattle.distance.proofs.Nodes.{from-node, to-node}
+use Rattle.distance.proofs.Nodes.{from_node, to_node}
 
 pub answers_of : {P : ℕ → Type 0} (l : ℕ) → Told P l → Answers P (said_label l)
 answers_of zero t = no_way (t.none refl)
@@ -31,75 +31,75 @@ answers_of (suc d) t = way (t.some d refl)
 
 -- lengths checked in two goes
 module _ (ps qs : List (ℕ × ℕ)) where
-  unlike-left : (l : List (ℕ × ℕ)) → Unlike l → Unlike (l ++ qs)
-  unlike-left (p ∷ l) (inl n) = inl n
-  unlike-left (p ∷ l) (inr u) = inr (unlike-left l u)
-  unlike-left [] x' = elim x' [ ]
+  unlike_left : (l : List (ℕ × ℕ)) → Unlike l → Unlike (l ++ qs)
+  unlike_left (p ∷ l) (inl n) = inl n
+  unlike_left (p ∷ l) (inr u) = inr (unlike_left l u)
+  unlike_left [] x' = elim x' [ ]
 
-  unlike-right : (l : List (ℕ × ℕ)) → Unlike qs → Unlike (l ++ qs)
-  unlike-right [] u = u
-  unlike-right (p ∷ l) u = inr (unlike-right l u)
+  unlike_right : (l : List (ℕ × ℕ)) → Unlike qs → Unlike (l ++ qs)
+  unlike_right [] u = u
+  unlike_right (p ∷ l) u = inr (unlike_right l u)
 
-  unlike-cases : (l : List (ℕ × ℕ)) → Unlike (l ++ qs) → Unlike l ⊎ Unlike qs
-  unlike-cases [] u = inr u
-  unlike-cases (p ∷ l) (inl n) = inl (inl n)
-  unlike-cases (p ∷ l) (inr u) = ⊎_elim (λ x. inl (inr x)) inr (unlike-cases l u)
+  unlike_cases : (l : List (ℕ × ℕ)) → Unlike (l ++ qs) → Unlike l ⊎ Unlike qs
+  unlike_cases [] u = inr u
+  unlike_cases (p ∷ l) (inl n) = inl (inl n)
+  unlike_cases (p ∷ l) (inr u) = ⊎_elim (λ x. inl (inr x)) inr (unlike_cases l u)
 
-  pub lengths-stop : (v : Verdict) (r : Refusal) → Judged (lengths_fault ps) v → v ≡ Refused r → Judged (lengths_fault (ps ++ qs)) v
-  lengths-stop v r j e =
+  pub lengths_stop : (v : Verdict) (r : Refusal) → Judged (lengths_fault ps) v → v ≡ Refused r → Judged (lengths_fault (ps ++ qs)) v
+  lengths_stop v r j e =
       record {
         passed = λ p. absurd (not_both p e);
-        refused = λ s q. record { is = (j.refused s q).is; holds = unlike-left ps (j.refused s q).holds };
+        refused = λ s q. record { is = (j.refused s q).is; holds = unlike_left ps (j.refused s q).holds };
       }
 
-  pub lengths-on : (u v : Verdict) → Judged (lengths_fault ps) u → u ≡ Passed → Judged (lengths_fault qs) v → Judged (lengths_fault (ps ++ qs)) v
-  lengths-on u v j e k =
+  pub lengths_on : (u v : Verdict) → Judged (lengths_fault ps) u → u ≡ Passed → Judged (lengths_fault qs) v → Judged (lengths_fault (ps ++ qs)) v
+  lengths_on u v j e k =
       record {
-        passed = λ p. untold (λ x. ⊎_elim (unheld (j.passed e)) (unheld (k.passed p)) (unlike-cases ps x));
-        refused = λ s q. record { is = (k.refused s q).is; holds = unlike-right ps (k.refused s q).holds };
+        passed = λ p. untold (λ x. ⊎_elim (unheld (j.passed e)) (unheld (k.passed p)) (unlike_cases ps x));
+        refused = λ s q. record { is = (k.refused s q).is; holds = unlike_right ps (k.refused s q).holds };
       }
 
 -- what check 7 leaves
 module _ (chosen starts heads weights : List ℕ) (f : BadOverlay chosen starts heads weights → ⊥) where
   pub lent_sound : Sound overlay_limits starts heads weights
-  lent_sound = sound-of overlay_limits starts heads weights (none_if_no_first (graph_faults overlay_limits starts heads weights) (λ r x. f (BadOverlay.faulty r x)))
+  lent_sound = sound_of overlay_limits starts heads weights (none_if_no_first (graph_faults overlay_limits starts heads weights) (λ r x. f (BadOverlay.faulty r x)))
 
-  pub lent-nodes : nodes_of starts ≡ length chosen
-  lent-nodes = omega (arith, not_unlike (length starts) (length chosen + 1) (λ n. f (BadOverlay.unlike n)))
+  pub lent_nodes : nodes_of starts ≡ length chosen
+  lent_nodes = omega (arith, not_unlike (length starts) (length chosen + 1) (λ n. f (BadOverlay.unlike n)))
 
 module _ (chosen starts heads weights : List ℕ) (s t : ℕ) where
   -- what the checks leave: a set, an overlay that passes, two nodes
-  own-none : None (hand_input chosen starts heads weights s t) → None (overlay_fault chosen starts heads weights ∷ node_fault (length chosen) s t ∷ outside_fault chosen s t ∷ [])
-  own-none n = none_back (lone_set_faults chosen) (overlay_fault chosen starts heads weights ∷ node_fault (length chosen) s t ∷ outside_fault chosen s t ∷ []) n
+  own_none : None (hand_input chosen starts heads weights s t) → None (overlay_fault chosen starts heads weights ∷ node_fault (length chosen) s t ∷ outside_fault chosen s t ∷ [])
+  own_none n = none_back (lone_set_faults chosen) (overlay_fault chosen starts heads weights ∷ node_fault (length chosen) s t ∷ outside_fault chosen s t ∷ []) n
 
-  pub hand-few : (v : Verdict) → Judges (hand_input chosen starts heads weights s t) v → v ≡ Passed → length chosen ≤ 4096
-  hand-few v j p = not_over (length chosen) most_nodes (λ h. unheld (j.passed p).0 (BadSetSize.many h))
+  pub hand_few : (v : Verdict) → Judges (hand_input chosen starts heads weights s t) v → v ≡ Passed → length chosen ≤ 4096
+  hand_few v j p = not_over (length chosen) most_nodes (λ h. unheld (j.passed p).0 (BadSetSize.many h))
 
   module _ (a : HandAreas) where
-    pub hand-refused-early : (v : Verdict) (r : Refusal) → Judges (hand_input chosen starts heads weights s t) v → v ≡ Refused r → HandOutcome chosen starts heads weights s t a (refusal r) a
-    hand-refused-early v r j e = HandOutcome.refused ((stops (hand_input chosen starts heads weights s t) (lengths_fault (hand_lengths (length chosen) a) ∷ []) e j).refused r e)
+    pub hand_refused_early : (v : Verdict) (r : Refusal) → Judges (hand_input chosen starts heads weights s t) v → v ≡ Refused r → HandOutcome chosen starts heads weights s t a (refusal r) a
+    hand_refused_early v r j e = HandOutcome.refused ((stops (hand_input chosen starts heads weights s t) (lengths_fault (hand_lengths (length chosen) a) ∷ []) e j).refused r e)
 
     module _ (u : Verdict) (j : Judges (hand_input chosen starts heads weights s t) u) (p : u ≡ Passed) (v : Verdict) (l : Judged (lengths_fault (hand_lengths (length chosen) a)) v) where
-      all-judged : Judges (hand_faults chosen starts heads weights s t a) v
-      all-judged = goes_on (hand_input chosen starts heads weights s t) (lengths_fault (hand_lengths (length chosen) a) ∷ []) p j (judged-alone l)
+      all_judged : Judges (hand_faults chosen starts heads weights s t a) v
+      all_judged = goes_on (hand_input chosen starts heads weights s t) (lengths_fault (hand_lengths (length chosen) a) ∷ []) p j (judged_alone l)
 
-      pub hand-refused-late : (r : Refusal) → v ≡ Refused r → HandOutcome chosen starts heads weights s t a (refusal r) a
-      hand-refused-late r e = HandOutcome.refused (all-judged.refused r e)
+      pub hand_refused_late : (r : Refusal) → v ≡ Refused r → HandOutcome chosen starts heads weights s t a (refusal r) a
+      hand_refused_late r e = HandOutcome.refused (all_judged.refused r e)
 
       lent : BadOverlay chosen starts heads weights → ⊥
-      lent = unheld (own-none (j.passed p)).0
+      lent = unheld (own_none (j.passed p)).0
 
       same : nodes_of starts ≡ length chosen
-      same = lent-nodes chosen starts heads weights lent
+      same = lent_nodes chosen starts heads weights lent
 
-      pub hand-ready : v ≡ Passed → (s' t' : ℕ) → s' ≡ s → t' ≡ t → HandReady starts heads weights s' t' a
-      hand-ready q s' t' e f =
-          let n = unheld (own-none (j.passed p)).1.0 in
+      pub hand_ready : v ≡ Passed → (s' t' : ℕ) → s' ≡ s → t' ≡ t → HandReady starts heads weights s' t' a
+      hand_ready q s' t' e f =
+          let n = unheld (own_none (j.passed p)).1.0 in
           let y = long_at (hand_lengths (length chosen) a) (unheld (l.passed q)) in
           record {
             sound = lent_sound chosen starts heads weights lent;
-            from = omega (arith, from-node (length chosen) s t n, same);
-            to = omega (arith, to-node (length chosen) s t n, same);
+            from = omega (arith, from_node (length chosen) s t n, same);
+            to = omega (arith, to_node (length chosen) s t n, same);
             labels_long = y 0 ∙ sym same;
             heap_long = y 1 ∙ ap (λ (k : ℕ). 2 * k) (sym same);
             places_long = y 2 ∙ sym same;
@@ -107,29 +107,29 @@ module _ (chosen starts heads weights : List ℕ) (s t : ℕ) where
             blocked_long = y 4 ∙ sym same;
           }
 
-      pub hand-answered :
+      pub hand_answered :
           v ≡ Passed → (s' t' label : ℕ) → s' ≡ s → t' ≡ t → Told (Handheld (road starts heads weights) s' t') label → (after : HandAreas) → after ≡ hand_cleared (nodes_of starts) →
           (said : Said) → said ≡ said_label label → HandOutcome chosen starts heads weights s t a said after
-      hand-answered q s' t' label e f x after z said k =
+      hand_answered q s' t' label e f x after z said k =
           subst₂ (λ (o : Said) (b : HandAreas). HandOutcome chosen starts heads weights s t a o b) (sym k) (sym (z ∙ ap hand_cleared same))
-          (HandOutcome.answered (all-judged.passed q)
+          (HandOutcome.answered (all_judged.passed q)
           (subst₂ (λ (y w : ℕ). Answers (Handheld (road starts heads weights) y w) (said_label label)) e f (answers_of label x)))
 
 module _ (starts heads weights chosen starts' heads' weights' : List ℕ) (s t : ℕ) where
   input_none : None (pair_input starts heads weights chosen starts' heads' weights' s t) → None (road_and_set_faults starts heads weights chosen)
   input_none n = none_front (road_and_set_faults starts heads weights chosen) (overlay_fault chosen starts' heads' weights' ∷ node_fault (nodes_of starts) s t ∷ []) n
 
-  rest-none : None (pair_input starts heads weights chosen starts' heads' weights' s t) → None (overlay_fault chosen starts' heads' weights' ∷ node_fault (nodes_of starts) s t ∷ [])
-  rest-none n = none_back (road_and_set_faults starts heads weights chosen) (overlay_fault chosen starts' heads' weights' ∷ node_fault (nodes_of starts) s t ∷ []) n
+  rest_none : None (pair_input starts heads weights chosen starts' heads' weights' s t) → None (overlay_fault chosen starts' heads' weights' ∷ node_fault (nodes_of starts) s t ∷ [])
+  rest_none n = none_back (road_and_set_faults starts heads weights chosen) (overlay_fault chosen starts' heads' weights' ∷ node_fault (nodes_of starts) s t ∷ []) n
 
-  pub pair-few : (v : Verdict) → Judges (pair_input starts heads weights chosen starts' heads' weights' s t) v → v ≡ Passed → nodes_of starts ≤ 4096
-  pair-few v j p = omega (arith, (road-and-set-left starts heads weights chosen (input_none (j.passed p))).sound.sized.most)
+  pub pair_few : (v : Verdict) → Judges (pair_input starts heads weights chosen starts' heads' weights' s t) v → v ≡ Passed → nodes_of starts ≤ 4096
+  pair_few v j p = omega (arith, (road_and_set_left starts heads weights chosen (input_none (j.passed p))).sound.sized.most)
 
   module _ (a : PairAreas) where
-    pub pair-refused-early :
+    pub pair_refused_early :
         (v : Verdict) (r : Refusal) → Judges (pair_input starts heads weights chosen starts' heads' weights' s t) v → v ≡ Refused r →
         PairOutcome starts heads weights chosen starts' heads' weights' s t a (refusal r) a
-    pair-refused-early v r j e =
+    pair_refused_early v r j e =
         PairOutcome.refused
         ((stops (pair_input starts heads weights chosen starts' heads' weights' s t) (lengths_fault (pair_lengths (nodes_of starts) (length heads) a) ∷ []) e j).refused r e)
 
@@ -140,27 +140,27 @@ module _ (starts heads weights chosen starts' heads' weights' : List ℕ) (s t :
         (v : Verdict)
         (l : Judged (lengths_fault (pair_lengths (nodes_of starts) (length heads) a)) v)
       where
-        every-judged : Judges (pair_faults starts heads weights chosen starts' heads' weights' s t a) v
-        every-judged =
-            goes_on (pair_input starts heads weights chosen starts' heads' weights' s t) (lengths_fault (pair_lengths (nodes_of starts) (length heads) a) ∷ []) p j (judged-alone l)
+        every_judged : Judges (pair_faults starts heads weights chosen starts' heads' weights' s t a) v
+        every_judged =
+            goes_on (pair_input starts heads weights chosen starts' heads' weights' s t) (lengths_fault (pair_lengths (nodes_of starts) (length heads) a) ∷ []) p j (judged_alone l)
 
-        pub pair-refused-late : (r : Refusal) → v ≡ Refused r → PairOutcome starts heads weights chosen starts' heads' weights' s t a (refusal r) a
-        pair-refused-late r e = PairOutcome.refused (every-judged.refused r e)
+        pub pair_refused_late : (r : Refusal) → v ≡ Refused r → PairOutcome starts heads weights chosen starts' heads' weights' s t a (refusal r) a
+        pair_refused_late r e = PairOutcome.refused (every_judged.refused r e)
 
-        pub pair-ready : v ≡ Passed → (s'' t'' : ℕ) → s'' ≡ s → t'' ≡ t → PairReady starts heads weights chosen starts' heads' weights' s'' t'' a
-        pair-ready q s'' t'' e f =
-            let x = road-and-set-left starts heads weights chosen (input_none (j.passed p)) in
-            let lent = unheld (rest-none (j.passed p)).0 in
-            let nodes = unheld (rest-none (j.passed p)).1.0 in
+        pub pair_ready : v ≡ Passed → (s'' t'' : ℕ) → s'' ≡ s → t'' ≡ t → PairReady starts heads weights chosen starts' heads' weights' s'' t'' a
+        pair_ready q s'' t'' e f =
+            let x = road_and_set_left starts heads weights chosen (input_none (j.passed p)) in
+            let lent = unheld (rest_none (j.passed p)).0 in
+            let nodes = unheld (rest_none (j.passed p)).1.0 in
             let y = long_at (pair_lengths (nodes_of starts) (length heads) a) (unheld (l.passed q)) in
             record {
               sound = x.sound;
               lent_sound = lent_sound chosen starts' heads' weights' lent;
-              as_many = lent-nodes chosen starts' heads' weights' lent ∙ x.set_right.bytes;
+              as_many = lent_nodes chosen starts' heads' weights' lent ∙ x.set_right.bytes;
               bytes = x.set_right.bytes;
               bits = x.set_right.bits;
-              from = omega (arith, from-node (nodes_of starts) s t nodes);
-              to = omega (arith, to-node (nodes_of starts) s t nodes);
+              from = omega (arith, from_node (nodes_of starts) s t nodes);
+              to = omega (arith, to_node (nodes_of starts) s t nodes);
               starts_long = y 0;
               heads_long = y 1;
               weights_long = y 2;
@@ -173,10 +173,10 @@ module _ (starts heads weights chosen starts' heads' weights' : List ℕ) (s t :
               blocked_long = y 9;
             }
 
-        pub pair-answered :
+        pub pair_answered :
             v ≡ Passed → (s'' t'' label : ℕ) → s'' ≡ s → t'' ≡ t → Told (AnyPair (road starts heads weights) (road starts' heads' weights') chosen s'' t'') label → (after : PairAreas) →
             after ≡ pair_cleared (nodes_of starts) (length heads) → (said : Said) → said ≡ said_label label → PairOutcome starts heads weights chosen starts' heads' weights' s t a said after
-        pair-answered q s'' t'' label e f x after z said k =
+        pair_answered q s'' t'' label e f x after z said k =
             subst₂ (λ (o : Said) (b : PairAreas). PairOutcome starts heads weights chosen starts' heads' weights' s t a o b) (sym k) (sym z)
-            (PairOutcome.answered (every-judged.passed q)
+            (PairOutcome.answered (every_judged.passed q)
             (subst₂ (λ (y w : ℕ). Answers (AnyPair (road starts heads weights) (road starts' heads' weights') chosen y w) (said_label label)) e f (answers_of label x)))

@@ -8,15 +8,15 @@ use native.Mathlib.Omega.{arith}
 use lib.ListN.{length, get_or, replicate, length-replicate, get_or-eq_default}
 use Rattle.paths.specs.Graphs.{Reaches, Any, arcs_of}
 use Rattle.paths.specs.Least.{Told}
-use Rattle.paths.proofs.Weights.{path-light}
-use Rattle.paths.proofs.Least.{told-carries}
+use Rattle.paths.proofs.Weights.{path_light}
+use Rattle.paths.proofs.Least.{told_carries}
 use Rattle.road.specs.Limits.{overlay_limits}
 use Rattle.road.specs.Roads.{nodes_of, road}
 use Rattle.road.specs.workings.Sound.{Sound}
-use Rattle.road.proofs.Faults.{road-proper, road-lighter}
+use Rattle.road.proofs.Faults.{road_proper, road_lighter}
 use Rattle.road.proofs.Filled.{zeros_at}
 use Rattle.search.specs.workings.Rows.{Free, Row, Asks, label_at}
-use Rattle.overlay.proofs.Locals.{reaches-under}
+use Rattle.overlay.proofs.Locals.{reaches_under}
 use Rattle.distance.specs.workings.Labels.{Small, Modest, Searchable}
 
 -- no label is more than one over 16,769,025,000,000
@@ -27,7 +27,7 @@ row_small starts heads weights blocked a labels s r = record { small = λ v. by 
     light : (d v : ℕ) → Reaches (road starts heads weights) (Free blocked) a v d → d ≤ 16769025000000
     light d v x =
         let most : d ≤ arcs_of (nodes_of starts) * 4095000000 =
-        path-light (road-proper overlay_limits starts heads weights s) (road-lighter overlay_limits starts heads weights s) x.path
+        path_light (road_proper overlay_limits starts heads weights s) (road_lighter overlay_limits starts heads weights s) x.path
         in
         let few : arcs_of (nodes_of starts) ≤ 4095 = omega (arith, s.sized.most) in
         let arcs : arcs_of (nodes_of starts) * 4095000000 ≤ 4095 * 4095000000 = mul-le-mul_right 4095000000 few in
@@ -54,9 +54,9 @@ module _ (starts heads weights blocked labels heap places : List ℕ) (s : Searc
         places_zero = s.places_zero;
       }
 
-  pub searchable-again :
+  pub searchable_again :
       (labels' heap' places' : List ℕ) → length labels' ≡ length labels → heap' ≡ heap → places' ≡ places → Searchable starts heads weights blocked labels' heap' places'
-  searchable-again labels' heap' places' e f g =
+  searchable_again labels' heap' places' e f g =
       record {
         sound = s.sound;
         blocked_zero = s.blocked_zero;
@@ -66,9 +66,9 @@ module _ (starts heads weights blocked labels heap places : List ℕ) (s : Searc
         places_zero = g ∙ s.places_zero;
       }
 
-  all-free : (v : ℕ) → Free blocked v
-  all-free v = ap (λ (l : List ℕ). get_or l v 0) s.blocked_zero ∙ zeros_at (nodes_of starts) v
+  all_free : (v : ℕ) → Free blocked v
+  all_free v = ap (λ (l : List ℕ). get_or l v 0) s.blocked_zero ∙ zeros_at (nodes_of starts) v
 
   -- nothing is blocked, so the row is over all paths
   pub row_any : (a : ℕ) (labels' : List ℕ) → Row (road starts heads weights) blocked a labels' → (b : ℕ) → b < nodes_of starts → Told (Reaches (road starts heads weights) Any a b) (label_at labels' b)
-  row_any a labels' r b h = told-carries (reaches-under (λ v f. tt)) (reaches-under (λ v f. all-free v)) (r.told b h)
+  row_any a labels' r b h = told_carries (reaches_under (λ v f. tt)) (reaches_under (λ v f. all_free v)) (r.told b h)

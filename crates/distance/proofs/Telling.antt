@@ -48,18 +48,18 @@ told_some {P} d p f =
     same e q = omega arith
 
 module _ {P Q : ℕ → Type 0} (l m r : ℕ) (t : Told P l) (u : Told Q m) (x : Lesser l m r) where
-  left-most : (d e : ℕ) → r ≡ suc d → P e → d ≤ e
-  left-most d e q p =
+  left_most : (d e : ℕ) → r ≡ suc d → P e → d ≤ e
+  left_most d e q p =
       let h = told_most l e t p in
       omega (arith, h.1, (x.left h.0).1)
 
-  right-most : (d e : ℕ) → r ≡ suc d → Q e → d ≤ e
-  right-most d e q p =
+  right_most : (d e : ℕ) → r ≡ suc d → Q e → d ≤ e
+  right_most d e q p =
       let h = told_most m e u p in
       omega (arith, h.1, (x.right h.0).1)
 
-  pub told-lesser : Told (λ (d : ℕ). P d ⊎ Q d) r
-  told-lesser =
+  pub told_lesser : Told (λ (d : ℕ). P d ⊎ Q d) r
+  told_lesser =
       record {
         none =
             λ z.
@@ -68,7 +68,7 @@ module _ {P Q : ℕ → Type 0} (l m r : ℕ) (t : Told P l) (u : Told Q m) (x :
                   λ d.
                   ⊎_elim (λ p. (x.left (told_most l d t p).0).0 z) (λ q. (x.right (told_most m d u q).0).0 z);
             };
-        some = λ d e. record { is = there d e x.one; least = λ f. ⊎_elim (left-most d f e) (right-most d f e) };
+        some = λ d e. record { is = there d e x.one; least = λ f. ⊎_elim (left_most d f e) (right_most d f e) };
       }
     where
       there : (d : ℕ) → r ≡ suc d → (r ≡ l) ⊎ (r ≡ m) → P d ⊎ Q d
@@ -91,30 +91,30 @@ told_sum {X} {Y} {Z} (suc a) (suc b) (suc c) r t u v x =
 
 -- the ways in which the lesser comes out
 module _ (l m : ℕ) where
-  pub lesser-right : l ≡ 0 → Lesser l m m
-  lesser-right e = record { one = inr refl; left = λ n. absurd (n e); right = λ n. (n, omega arith) }
+  pub lesser_right : l ≡ 0 → Lesser l m m
+  lesser_right e = record { one = inr refl; left = λ n. absurd (n e); right = λ n. (n, omega arith) }
 
-  pub lesser-left : (a : ℕ) → l ≡ suc a → m ≡ 0 → Lesser l m (suc a)
-  lesser-left a f e = record { one = inl (sym f); left = λ n. ((λ z. omega arith), omega arith); right = λ n. absurd (n e) }
+  pub lesser_left : (a : ℕ) → l ≡ suc a → m ≡ 0 → Lesser l m (suc a)
+  lesser_left a f e = record { one = inl (sym f); left = λ n. ((λ z. omega arith), omega arith); right = λ n. absurd (n e) }
 
-  pub lesser-second : (a b : ℕ) → l ≡ suc a → m ≡ suc b → b < a → Lesser l m (suc b)
-  lesser-second a b e f h = record { one = inr (sym f); left = λ n. ((λ z. omega arith), omega arith); right = λ n. ((λ z. omega arith), omega arith) }
+  pub lesser_second : (a b : ℕ) → l ≡ suc a → m ≡ suc b → b < a → Lesser l m (suc b)
+  lesser_second a b e f h = record { one = inr (sym f); left = λ n. ((λ z. omega arith), omega arith); right = λ n. ((λ z. omega arith), omega arith) }
 
-  pub lesser-first : (a b : ℕ) → l ≡ suc a → m ≡ suc b → a ≤ b → Lesser l m (suc a)
-  lesser-first a b e f h = record { one = inl (sym e); left = λ n. ((λ z. omega arith), omega arith); right = λ n. ((λ z. omega arith), omega arith) }
+  pub lesser_first : (a b : ℕ) → l ≡ suc a → m ≡ suc b → a ≤ b → Lesser l m (suc a)
+  lesser_first a b e f h = record { one = inl (sym e); left = λ n. ((λ z. omega arith), omega arith); right = λ n. ((λ z. omega arith), omega arith) }
 
 -- and the sum
 module _ (l m n : ℕ) where
-  pub sum-missing : (l ≡ 0) ⊎ ((m ≡ 0) ⊎ (n ≡ 0)) → Summed l m n 0
-  sum-missing h = record { all = λ a b c x y z. absurd (by a b c x y z h); missing = λ g. refl }
+  pub sum_missing : (l ≡ 0) ⊎ ((m ≡ 0) ⊎ (n ≡ 0)) → Summed l m n 0
+  sum_missing h = record { all = λ a b c x y z. absurd (by a b c x y z h); missing = λ g. refl }
     where
       by : (a b c : ℕ) → l ≡ suc a → m ≡ suc b → n ≡ suc c → (l ≡ 0) ⊎ ((m ≡ 0) ⊎ (n ≡ 0)) → ⊥
       by a b c x y z (inl e) = omega arith
       by a b c x y z (inr (inl e)) = omega arith
       by a b c x y z (inr (inr e)) = omega arith
 
-  pub sum-all : (a b c : ℕ) → l ≡ suc a → m ≡ suc b → n ≡ suc c → (r : ℕ) → r ≡ suc (a + b + c) → Summed l m n r
-  sum-all a b c x y z r s = record { all = λ d e f u v w. omega arith; missing = λ h. absurd (by h) }
+  pub sum_all : (a b c : ℕ) → l ≡ suc a → m ≡ suc b → n ≡ suc c → (r : ℕ) → r ≡ suc (a + b + c) → Summed l m n r
+  sum_all a b c x y z r s = record { all = λ d e f u v w. omega arith; missing = λ h. absurd (by h) }
     where
       by : (l ≡ 0) ⊎ ((m ≡ 0) ⊎ (n ≡ 0)) → ⊥
       by (inl e) = omega arith
@@ -122,48 +122,48 @@ module _ (l m n : ℕ) where
       by (inr (inr e)) = omega arith
 
 module _ (chosen row : List ℕ) (s v : ℕ) where
-  pub gate-itself : InSet chosen s → v ≡ s → Told (Gate chosen row s v) 1
-  gate-itself i e = told_some 0 (itself i e refl) (λ d g. omega arith)
+  pub gate_itself : InSet chosen s → v ≡ s → Told (Gate chosen row s v) 1
+  gate_itself i e = told_some 0 (itself i e refl) (λ d g. omega arith)
 
-  pub gate-other : InSet chosen s → v ≢ s → Told (Gate chosen row s v) 0
-  gate-other i n = told_none by
+  pub gate_other : InSet chosen s → v ≢ s → Told (Gate chosen row s v) 0
+  gate_other i n = told_none by
     where
       by : (d : ℕ) → Gate chosen row s v d → ⊥
       by d (itself j e z) = n e
       by d (reached o j e) = o i
 
-  pub gate-outside : (InSet chosen s → ⊥) → (InSet chosen v → ⊥) → Told (Gate chosen row s v) 0
-  gate-outside o n = told_none by
+  pub gate_outside : (InSet chosen s → ⊥) → (InSet chosen v → ⊥) → Told (Gate chosen row s v) 0
+  gate_outside o n = told_none by
     where
       by : (d : ℕ) → Gate chosen row s v d → ⊥
       by d (itself j e z) = o j
       by d (reached p j e) = n j
 
-  pub gate-reached : (InSet chosen s → ⊥) → InSet chosen v → (l : ℕ) → l ≡ label_at row v → Told (Gate chosen row s v) l
-  gate-reached o i l q =
+  pub gate_reached : (InSet chosen s → ⊥) → InSet chosen v → (l : ℕ) → l ≡ label_at row v → Told (Gate chosen row s v) l
+  gate_reached o i l q =
       told_map (λ d e. reached o i (sym q ∙ e)) by l (says_told l)
     where
       by : (d : ℕ) → Gate chosen row s v d → Says l d
       by d (itself j e z) = absurd (o j)
       by d (reached p j e) = q ∙ e
 
-  gate-small : Small row → (d : ℕ) → Gate chosen row s v d → Modest (suc d)
-  gate-small m d (itself j e z) = omega arith
-  gate-small m d (reached p j e) = omega (arith, m.small v)
+  gate_small : Small row → (d : ℕ) → Gate chosen row s v d → Modest (suc d)
+  gate_small m d (itself j e z) = omega arith
+  gate_small m d (reached p j e) = omega (arith, m.small v)
 
-  pub gate-modest : (l : ℕ) → Told (Gate chosen row s v) l → Small row → Modest l
-  gate-modest zero t m = omega arith
-  gate-modest (suc d) t m = gate-small m d (t.some d refl).is
+  pub gate_modest : (l : ℕ) → Told (Gate chosen row s v) l → Small row → Modest l
+  gate_modest zero t m = omega arith
+  gate_modest (suc d) t m = gate_small m d (t.some d refl).is
 
 -- one exit more
 module _ (chosen labels row : List ℕ) (t first : ℕ) where
-  pub exits-none : Told (Exits chosen labels row t first 0) 0
-  exits-none = told_none (λ d x. omega (arith, x.below))
+  pub exits_none : Told (Exits chosen labels row t first 0) 0
+  exits_none = told_none (λ d x. omega (arith, x.below))
 
-  pub exits-more :
+  pub exits_more :
       (b l m r : ℕ) → Told (Exits chosen labels row t first b) l → Told (Sum (Says first) (Says (label_at labels b)) (Gate chosen row t b)) m → Lesser l m r →
       Told (Exits chosen labels row t first (b + 1)) r
-  exits-more b l m r x y h = told_map to from r (told-lesser l m r x y h)
+  exits_more b l m r x y h = told_map to from r (told_lesser l m r x y h)
     where
       to : (d : ℕ) → Exits chosen labels row t first b d ⊎ Sum (Says first) (Says (label_at labels b)) (Gate chosen row t b) d → Exits chosen labels row t first (b + 1) d
       to d (inl e) = record { exit = e.exit; below = omega (arith, e.below); sum = e.sum }
@@ -176,8 +176,8 @@ module _ (chosen labels row : List ℕ) (t first : ℕ) where
           by (yes q) = inr (subst (λ (k : ℕ). Sum (Says first) (Says (label_at labels k)) (Gate chosen row t k) d) q e.sum)
           by (no n) = inl (record { exit = e.exit; below = omega (arith, e.below); sum = e.sum })
 
-  pub exits-all : (b n l : ℕ) → Told (Exits chosen labels row t first b) l → b ≤ n → n ≤ b → Told (Exits chosen labels row t first n) l
-  exits-all b n l x h g =
+  pub exits_all : (b n l : ℕ) → Told (Exits chosen labels row t first b) l → b ≤ n → n ≤ b → Told (Exits chosen labels row t first n) l
+  exits_all b n l x h g =
       let same : b ≡ n = omega arith in
       subst (λ (k : ℕ). Told (Exits chosen labels row t first k) l) same x
 
@@ -186,9 +186,9 @@ module _ (O : Graph) (chosen outward inward : List ℕ) (s t : ℕ) where
   pub entries_none : Told (Entries O chosen outward inward s t 0) 0
   entries_none = told_none (λ d x. omega (arith, x.below))
 
-  pub entries-more :
+  pub entries_more :
       (a l m r : ℕ) → Told (Entries O chosen outward inward s t a) l → Told (Through O chosen outward inward s t a) m → Lesser l m r → Told (Entries O chosen outward inward s t (a + 1)) r
-  entries-more a l m r x y h = told_map to from r (told-lesser l m r x y h)
+  entries_more a l m r x y h = told_map to from r (told_lesser l m r x y h)
     where
       to : (d : ℕ) → Entries O chosen outward inward s t a d ⊎ Through O chosen outward inward s t a d → Entries O chosen outward inward s t (a + 1) d
       to d (inl e) = record { entry = e.entry; below = omega (arith, e.below); through = e.through }
@@ -201,20 +201,20 @@ module _ (O : Graph) (chosen outward inward : List ℕ) (s t : ℕ) where
           by (yes q) = inr (subst (λ (k : ℕ). Through O chosen outward inward s t k d) q e.through)
           by (no n) = inl (record { entry = e.entry; below = omega (arith, e.below); through = e.through })
 
-  pub entries-all : (a n l : ℕ) → Told (Entries O chosen outward inward s t a) l → a ≤ n → n ≤ a → Told (Entries O chosen outward inward s t n) l
-  entries-all a n l x h g =
+  pub entries_all : (a n l : ℕ) → Told (Entries O chosen outward inward s t a) l → a ≤ n → n ≤ a → Told (Entries O chosen outward inward s t n) l
+  entries_all a n l x h g =
       let same : a ≡ n = omega arith in
       subst (λ (k : ℕ). Told (Entries O chosen outward inward s t k) l) same x
 
   -- a node that is no entry
-  pub through-none : (a l : ℕ) → Told (Gate chosen outward s a) l → l ≡ 0 → Told (Through O chosen outward inward s t a) 0
-  through-none a l g e = told_none (λ d x. (g.none e).none x.sum.first x.sum.in_first)
+  pub through_none : (a l : ℕ) → Told (Gate chosen outward s a) l → l ≡ 0 → Told (Through O chosen outward inward s t a) 0
+  through_none a l g e = told_none (λ d x. (g.none e).none x.sum.first x.sum.in_first)
 
   -- an entry at the distance that its label says, and the overlay's row from it
-  pub through-exits :
+  pub through_exits_lem :
       (a first : ℕ) (labels : List ℕ) → Told (Gate chosen outward s a) first → ((b : ℕ) → b < length chosen → Told (Reaches O Any a b) (label_at labels b)) → (l : ℕ) →
       Told (Exits chosen labels inward t first (length chosen)) l → Told (Through O chosen outward inward s t a) l
-  through-exits a first labels g w l x = record { none = none-by; some = some-by }
+  through_exits_lem a first labels g w l x = record { none = none_by; some = some_by }
     where
       -- each sum over paths has one over labels under it
       under : (d : ℕ) → Through O chosen outward inward s t a d → (e : ℕ) × Exits chosen labels inward t first (length chosen) e × (e ≤ d)
@@ -239,8 +239,8 @@ module _ (O : Graph) (chosen outward inward : List ℕ) (s t : ℕ) where
           )
 
       -- and each sum over labels is one over paths
-      is-path : (d : ℕ) → Exits chosen labels inward t first (length chosen) d → Through O chosen outward inward s t a d
-      is-path d h =
+      is_path : (d : ℕ) → Exits chosen labels inward t first (length chosen) d → Through O chosen outward inward s t a d
+      is_path d h =
           record {
             exit = h.exit;
             node = h.below;
@@ -256,8 +256,8 @@ module _ (O : Graph) (chosen outward inward : List ℕ) (s t : ℕ) where
                 };
           }
 
-      none-by : l ≡ 0 → Empty (Through O chosen outward inward s t a)
-      none-by e = record { none = λ d h. (x.none e).none (under d h).0 (under d h).1 }
+      none_by : l ≡ 0 → Empty (Through O chosen outward inward s t a)
+      none_by e = record { none = λ d h. (x.none e).none (under d h).0 (under d h).1 }
 
-      some-by : (d : ℕ) → l ≡ suc d → Least (Through O chosen outward inward s t a) d
-      some-by d e = record { is = is-path d (x.some d e).is; least = λ f h. omega (arith, (x.some d e).least (under f h).0 (under f h).1, (under f h).2) }
+      some_by : (d : ℕ) → l ≡ suc d → Least (Through O chosen outward inward s t a) d
+      some_by d e = record { is = is_path d (x.some d e).is; least = λ f h. omega (arith, (x.some d e).least (under f h).0 (under f h).1, (under f h).2) }

@@ -8,13 +8,13 @@ use lib.ListN.{length, get_or, take}
 use lib.Seq.{get_or-take}
 use Rattle.paths.specs.Graphs.{Proper}
 use Rattle.paths.proofs.Lists.{each_mem, mem_at}
-use Rattle.paths.proofs.Weights.{path-short}
+use Rattle.paths.proofs.Weights.{path_short}
 use Rattle.road.specs.Drives.{Joined}
 use Rattle.road.specs.Limits.{most_drive, road_limits}
 use Rattle.road.specs.Refusals.{None, Said, answer}
 use Rattle.road.specs.Roads.{nodes_of, road}
 use Rattle.road.specs.workings.Sound.{Sound}
-use Rattle.road.proofs.Faults.{none-of-sound, set_clear}
+use Rattle.road.proofs.Faults.{none_of_sound, set_clear}
 use Rattle.road.proofs.Refusals.{first_not_none, untold}
 use Rattle.road.proofs.Rows.{owner_node}
 use Rattle.rule.specs.Promise.{Covers}
@@ -22,7 +22,7 @@ use Rattle.rule.specs.Rule.{PathOf}
 use Rattle.drive.specs.Calls.{Outcome, refused, thinned, faults_of}
 use Rattle.drive.specs.Promise.{Includes}
 use Rattle.drive.specs.Thinning.{IsDrive, Ascending, ThinnedDrive}
-use Rattle.drive.proofs.Demands.{answer-of, outcome-one}
+use Rattle.drive.proofs.Demands.{answer_of, outcome_one}
 use Rattle.drive.proofs.Outcomes.{drive_passes}
 
 module _ {starts heads weights bytes drive positions : List ℕ} where
@@ -38,7 +38,7 @@ module _ {starts heads weights bytes drive positions : List ℕ} where
       ((v : ℕ) → v < length bytes → get_or bytes v 0 ≤ 1) → IsDrive starts heads drive → length drive ≢ 0 → length drive ≤ most_drive → length positions ≡ length drive →
       said.number ≡ 0
   accepts o g s b d a m r =
-      let n = none-of-sound road_limits starts heads weights g in
+      let n = none_of_sound road_limits starts heads weights g in
       accepted o
       (n.0, (n.1.0, (n.1.1.0, (untold (set_clear (nodes_of starts) bytes s b), (untold (drive_passes starts heads drive d a m), (untold (λ u. u r), tt))))))
 
@@ -46,7 +46,7 @@ module _ {starts heads weights bytes drive positions : List ℕ} where
   pub counts :
       {said : Said} {after kept : List ℕ} → Outcome starts heads weights bytes drive positions said after → None (faults_of starts heads weights bytes drive positions) →
       ThinnedDrive bytes drive kept → said ≡ answer (length kept ∷ [])
-  counts o n t = (outcome-one o (thinned n t)).0
+  counts o n t = (outcome_one o (thinned n t)).0
 
   -- A refusal touches the result: it leaves the slice as it was.
   pub refusal_leaves : {said : Said} {after : List ℕ} → Outcome starts heads weights bytes drive positions said after → said.number ≢ 0 → after ≡ positions
@@ -64,21 +64,21 @@ module _ {starts heads weights bytes drive positions : List ℕ} {count : ℕ} {
   -- The positions do not ascend: an earlier entry is below a later one, up to the count.
   pub ascending : Outcome starts heads weights bytes drive positions (answer (count ∷ [])) after → (p q : ℕ) → p < q → q < count → get_or after p 0 < get_or after q 0
   ascending o p q h l =
-      let a = answer-of o in
+      let a = answer_of o in
       omega
       (arith, earlier (take count after) p q a.is_thinned.ascends h (omega (arith, a.counted)), get_or-take count after p 0 (omega arith), get_or-take count after q 0 l)
 
   -- Some pair of neighbours is not looked at, be it the last: in an accepted drive each is joined to the next.
-  pub pairs-joined :
+  pub pairs_joined :
       Outcome starts heads weights bytes drive positions (answer (count ∷ [])) after → (i : ℕ) → i + 1 < length drive →
       Joined starts heads (get_or drive i 0) (get_or drive (i + 1) 0)
-  pairs-joined o = (answer-of o).is_drive.joins
+  pairs_joined o = (answer_of o).is_drive.joins
 
 -- The one pair of the drive 2, 1 over Ring is not looked at, or its arc is looked for at the wrong tail: no arc leads from 2 to 1, though one leads from 1 to 2.
 pub against_the_ring :
     {weights bytes positions : List ℕ} {count : ℕ} {after : List ℕ} →
     Outcome (0 ∷ 1 ∷ 2 ∷ 3 ∷ []) (1 ∷ 2 ∷ 0 ∷ []) weights bytes (2 ∷ 1 ∷ []) positions (answer (count ∷ [])) after → ⊥
-against_the_ring o = no_arc (pairs-joined o 0 (omega arith))
+against_the_ring o = no_arc (pairs_joined o 0 (omega arith))
   where
     no_arc : Joined (0 ∷ 1 ∷ 2 ∷ 3 ∷ []) (1 ∷ 2 ∷ 0 ∷ []) 2 1 → ⊥
     no_arc j =
@@ -91,21 +91,21 @@ module _ (weights : List ℕ) where
   abbrev Pair : List ℕ → Type 0
   Pair l = PathOf (road (0 ∷ 1 ∷ 2 ∷ []) (1 ∷ 0 ∷ []) weights) 3 l
 
-  two-nodes : Proper (road (0 ∷ 1 ∷ 2 ∷ []) (1 ∷ 0 ∷ []) weights)
-  two-nodes = record { tail = λ {u} {v} {w} a. owner_node (0 ∷ 1 ∷ 2 ∷ []) u a.place a.owned; head = λ {u} {v} {w} a. head a.place a.listed v a.head }
+  two_nodes : Proper (road (0 ∷ 1 ∷ 2 ∷ []) (1 ∷ 0 ∷ []) weights)
+  two_nodes = record { tail = λ {u} {v} {w} a. owner_node (0 ∷ 1 ∷ 2 ∷ []) u a.place a.owned; head = λ {u} {v} {w} a. head a.place a.listed v a.head }
     where
       head : (p : ℕ) → p < 2 → (v : ℕ) → get_or {A = ℕ} (1 ∷ 0 ∷ []) p 0 ≡ v → v < 2
       head zero h v e = omega arith
       head (suc zero) h v e = omega arith
       head (suc (suc p)) h v e = absurd (omega arith)
 
-  pub empty-covers : Covers Pair (0 ∷ 0 ∷ [])
-  empty-covers = record { meets = λ l c. absurd (omega (arith, path-short two-nodes c.path, ap length c.whole, c.nodes)) }
+  pub empty_covers : Covers Pair (0 ∷ 0 ∷ [])
+  empty_covers = record { meets = λ l c. absurd (omega (arith, path_short two_nodes c.path, ap length c.whole, c.nodes)) }
 
-  pub turns-back :
+  pub turns_back :
       {positions : List ℕ} {count : ℕ} {after : List ℕ} → Outcome (0 ∷ 1 ∷ 2 ∷ []) (1 ∷ 0 ∷ []) weights (0 ∷ 0 ∷ []) (0 ∷ 1 ∷ 0 ∷ []) positions (answer (count ∷ [])) after →
       Includes (take count after) 0 3 → ⊥
-  turns-back o i = outside i.position ((answer-of o).is_thinned.only i.position i.is_kept).in_set
+  turns_back o i = outside i.position ((answer_of o).is_thinned.only i.position i.is_kept).in_set
     where
       outside : (p : ℕ) → ◌≡◌ {A = ℕ} (get_or (0 ∷ 0 ∷ []) (get_or (0 ∷ 1 ∷ 0 ∷ []) p 0) 0) 1 → ⊥
       outside zero e = omega arith

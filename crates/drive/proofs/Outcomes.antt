@@ -15,16 +15,16 @@ use Rattle.road.specs.Faults.{length_fault}
 use Rattle.road.specs.Limits.{most_drive, road_limits}
 use Rattle.road.specs.Refusals.{None, refusal, answer}
 use Rattle.road.specs.workings.Left.{DriveLeft}
-use Rattle.road.proofs.Left.{drive-left}
+use Rattle.road.proofs.Left.{drive_left}
 use Rattle.road.specs.workings.Verdicts.{Judged, Judges}
 use Rattle.road.specs.Roads.{nodes_of, Owns}
 use Rattle.road.specs.workings.Sound.{Sound}
 use Rattle.road.proofs.Faults.{not_over, not_unlike}
-use Rattle.road.proofs.Refusals.{judged-alone, stops, goes_on, unheld}
+use Rattle.road.proofs.Refusals.{judged_alone, stops, goes_on, unheld}
 use Rattle.drive.specs.Calls.{Outcome, refused, thinned, faults_of}
 use Rattle.drive.specs.Thinning.{IsDrive}
 use Rattle.drive.specs.workings.Picking.{Fits, Picking}
-use Rattle.drive.proofs.Picks.{picking-end}
+use Rattle.drive.proofs.Picks.{picking_end}
 
 -- whether two nodes are joined is decided: there are only so many places
 module _ (starts heads : List ℕ) (u v : ℕ) where
@@ -55,8 +55,8 @@ module _ (starts heads : List ℕ) (u v : ℕ) where
           last p h o (yes e) = a (subst Here e o)
           last p h o (no d) = b p (omega (arith, d)) o
 
-  pub joined-if-not-apart : ((Joined starts heads u v → ⊥) → ⊥) → Joined starts heads u v
-  joined-if-not-apart f = by (among (length heads))
+  pub joined_if_not_apart : ((Joined starts heads u v → ⊥) → ⊥) → Joined starts heads u v
+  joined_if_not_apart f = by (among (length heads))
     where
       by : ((p : ℕ) × (p < length heads) × Here p) ⊎ ((p : ℕ) → p < length heads → Here p → ⊥) → Joined starts heads u v
       by (inl a) = record { place = a.0; listed = a.1; owned = a.2.owned; head = a.2.head }
@@ -67,7 +67,7 @@ pub drive_of : (starts heads drive : List ℕ) → (BadDrive starts heads drive 
 drive_of starts heads drive n =
     record {
       nodes = λ i h. not_over (suc (get_or drive i 0)) (nodes_of starts) (λ l. n (outside i h (omega arith)));
-      joins = λ i h. joined-if-not-apart starts heads (get_or drive i 0) (get_or drive (i + 1) 0) (λ a. n (apart i h a));
+      joins = λ i h. joined_if_not_apart starts heads (get_or drive i 0) (get_or drive (i + 1) 0) (λ a. n (apart i h a));
     }
 
 -- and a drive of 1 to 4,096 nodes is not refused
@@ -80,43 +80,43 @@ drive_passes starts heads drive d a b (apart i h o) = o (d.joins i h)
 -- what no fault of the input says
 module _ (starts heads weights bytes drive : List ℕ) (n : None (drive_faults starts heads weights bytes drive)) where
   left : DriveLeft starts heads weights bytes drive
-  left = drive-left starts heads weights bytes drive n
+  left = drive_left starts heads weights bytes drive n
 
-  pub input-sound : Sound road_limits starts heads weights
-  input-sound = left.road_and_set.sound
+  pub input_sound : Sound road_limits starts heads weights
+  input_sound = left.road_and_set.sound
 
-  pub input-drive : IsDrive starts heads drive
-  input-drive = drive_of starts heads drive left.drive_right
+  pub input_drive : IsDrive starts heads drive
+  input_drive = drive_of starts heads drive left.drive_right
 
-  pub input-fits : (positions : List ℕ) → length positions ≡ length drive → Fits bytes drive positions
-  input-fits positions e =
+  pub input_fits : (positions : List ℕ) → length positions ≡ length drive → Fits bytes drive positions
+  input_fits positions e =
       record {
-        nodes = λ i h. omega (arith, input-drive.nodes i h, left.road_and_set.set_right.bytes);
+        nodes = λ i h. omega (arith, input_drive.nodes i h, left.road_and_set.set_right.bytes);
         few = not_over (length drive) most_drive (λ h. left.drive_right (many h));
         room = e;
       }
 
 -- From the checks to the outcome.
 module _ (starts heads weights bytes drive positions : List ℕ) where
-  pub refused-early :
+  pub refused_early :
       (v : Verdict) (r : Refusal) → Judges (drive_faults starts heads weights bytes drive) v → v ≡ Refused r → Outcome starts heads weights bytes drive positions (refusal r) positions
-  refused-early v r j e = refused ((stops (drive_faults starts heads weights bytes drive) (length_fault (length positions) (length drive) ∷ []) e j).refused r e)
+  refused_early v r j e = refused ((stops (drive_faults starts heads weights bytes drive) (length_fault (length positions) (length drive) ∷ []) e j).refused r e)
 
   module _ (u : Verdict) (j : Judges (drive_faults starts heads weights bytes drive) u) (p : u ≡ Passed) (v : Verdict) (l : Judged (length_fault (length positions) (length drive)) v) where
-    all-judged : Judges (faults_of starts heads weights bytes drive positions) v
-    all-judged = goes_on (drive_faults starts heads weights bytes drive) (length_fault (length positions) (length drive) ∷ []) p j (judged-alone l)
+    all_judged : Judges (faults_of starts heads weights bytes drive positions) v
+    all_judged = goes_on (drive_faults starts heads weights bytes drive) (length_fault (length positions) (length drive) ∷ []) p j (judged_alone l)
 
-    pub refused-late : (r : Refusal) → v ≡ Refused r → Outcome starts heads weights bytes drive positions (refusal r) positions
-    refused-late r e = refused (all-judged.refused r e)
+    pub refused_late : (r : Refusal) → v ≡ Refused r → Outcome starts heads weights bytes drive positions (refusal r) positions
+    refused_late r e = refused (all_judged.refused r e)
 
     module _ (q : v ≡ Passed) where
       pub fits : Fits bytes drive positions
-      fits = input-fits starts heads weights bytes drive (j.passed p) positions (not_unlike (length positions) (length drive) (unheld (l.passed q)))
+      fits = input_fits starts heads weights bytes drive (j.passed p) positions (not_unlike (length positions) (length drive) (unheld (l.passed q)))
 
-      pub thinned-so :
+      pub thinned_so :
           (positions' : List ℕ) (count : ℕ) → Picking bytes drive positions (length drive) positions' count →
           Outcome starts heads weights bytes drive positions (answer (count ∷ [])) positions'
-      thinned-so positions' count b =
+      thinned_so positions' count b =
           subst₂ (λ (c : ℕ) (x : List ℕ). Outcome starts heads weights bytes drive positions (answer (c ∷ [])) x) b.count_right
           (ap (λ (c : ℕ). b.kept ++ drop c positions) b.count_right ∙ sym b.whole)
-          (thinned (all-judged.passed q) (picking-end bytes drive positions positions' count b))
+          (thinned (all_judged.passed q) (picking_end bytes drive positions positions' count b))

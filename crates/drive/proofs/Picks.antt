@@ -31,15 +31,15 @@ ascending_more (y ∷ l) x a e = (
 
 -- what the byte of a position's node tells
 module _ (bytes drive : List ℕ) (i v : ℕ) (e : v ≡ get_or drive i 0) where
-  pub tells-kept : i < length drive → get_or bytes v 0 ≡ 1 → Tells true (Kept bytes drive i)
-  tells-kept h b = tells_yes (record { position = h; in_set = ap (λ (x : ℕ). get_or bytes x 0) (sym e) ∙ b })
+  pub tells_kept : i < length drive → get_or bytes v 0 ≡ 1 → Tells true (Kept bytes drive i)
+  tells_kept h b = tells_yes (record { position = h; in_set = ap (λ (x : ℕ). get_or bytes x 0) (sym e) ∙ b })
 
-  pub tells-not-kept : get_or bytes v 0 ≢ 1 → Tells false (Kept bytes drive i)
-  tells-not-kept n = tells_no (λ k. n (ap (λ (x : ℕ). get_or bytes x 0) e ∙ k.in_set))
+  pub tells_not_kept : get_or bytes v 0 ≢ 1 → Tells false (Kept bytes drive i)
+  tells_not_kept n = tells_no (λ k. n (ap (λ (x : ℕ). get_or bytes x 0) e ∙ k.in_set))
 
 module _ (bytes drive positions : List ℕ) where
-  pub picking-none : Picking bytes drive positions 0 positions 0
-  picking-none =
+  pub picking_none : Picking bytes drive positions 0 positions 0
+  picking_none =
       record {
         kept = [];
         picks = record { ascends = tt; only = λ i h. absurd h; all = λ i k. absurd (omega (arith, k.before)) };
@@ -50,15 +50,15 @@ module _ (bytes drive positions : List ℕ) where
         long = refl;
       }
 
-  pub picking-same :
+  pub picking_same :
       (i : ℕ) (positions' positions'' : List ℕ) (count count' : ℕ) → Picking bytes drive positions i positions' count → positions'' ≡ positions' → count' ≡ count →
       Picking bytes drive positions i positions'' count'
-  picking-same i positions' positions'' count count' p e f = subst₂ (λ (l : List ℕ) (n : ℕ). Picking bytes drive positions i l n) (sym e) (sym f) p
+  picking_same i positions' positions'' count count' p e f = subst₂ (λ (l : List ℕ) (n : ℕ). Picking bytes drive positions i l n) (sym e) (sym f) p
 
   -- a position that is not kept changes nothing
-  pub picking-missed :
+  pub picking_missed :
       (i : ℕ) (positions' : List ℕ) (count : ℕ) → Picking bytes drive positions i positions' count → i < length drive → (Kept bytes drive i → ⊥) → Picking bytes drive positions (i + 1) positions' count
-  picking-missed i positions' count p h n =
+  picking_missed i positions' count p h n =
       record {
         kept = p.kept;
         picks = list_same p.kept more less p.picks;
@@ -80,10 +80,10 @@ module _ (bytes drive positions : List ℕ) where
           by (no d) = record { before = omega (arith, d, k.before); is_kept = k.is_kept }
 
   -- a position that is kept is written after those before it
-  pub picking-met :
+  pub picking_met :
       (i : ℕ) (positions' : List ℕ) (count : ℕ) → Picking bytes drive positions i positions' count → Kept bytes drive i → count < length positions →
       Picking bytes drive positions (i + 1) (set positions' count i) (count + 1)
-  picking-met i positions' count p k h =
+  picking_met i positions' count p k h =
       record {
         kept = p.kept ++ (i ∷ []);
         picks = record { ascends = ascending_more p.kept i p.picks.ascends below; only = only; all = all };
@@ -120,15 +120,15 @@ module _ (bytes drive positions : List ℕ) where
           ap (λ (n : ℕ). p.kept ++ (i ∷ []) ++ drop n positions) (sym (add-one count))
 
   -- there is room for one more as long as a position is left
-  pub picking-room : (i : ℕ) (positions' : List ℕ) (count : ℕ) → Picking bytes drive positions i positions' count → Fits bytes drive positions → i < length drive → count < length positions
-  picking-room i positions' count p f h = omega (arith, p.few, f.room)
+  pub picking_room : (i : ℕ) (positions' : List ℕ) (count : ℕ) → Picking bytes drive positions i positions' count → Fits bytes drive positions → i < length drive → count < length positions
+  picking_room i positions' count p f h = omega (arith, p.few, f.room)
 
   -- at the end of the drive it is thinned
-  pub picking-end : (positions' : List ℕ) (count : ℕ) (p : Picking bytes drive positions (length drive) positions' count) → ThinnedDrive bytes drive p.kept
-  picking-end positions' count p =
+  pub picking_end : (positions' : List ℕ) (count : ℕ) (p : Picking bytes drive positions (length drive) positions' count) → ThinnedDrive bytes drive p.kept
+  picking_end positions' count p =
       list_same p.kept (λ i k. k.is_kept) (λ i k. record { before = k.position; is_kept = k }) p.picks
 
   -- which is where no position is left
-  pub picking-all :
+  pub picking_all :
       (i : ℕ) (positions' : List ℕ) (count : ℕ) → Picking bytes drive positions i positions' count → length drive ≤ i → Picking bytes drive positions (length drive) positions' count
-  picking-all i positions' count p h = subst (λ (n : ℕ). Picking bytes drive positions n positions' count) (omega (arith, p.within)) p
+  picking_all i positions' count p h = subst (λ (n : ℕ). Picking bytes drive positions n positions' count) (omega (arith, p.within)) p

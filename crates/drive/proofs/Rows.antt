@@ -58,9 +58,9 @@ module _ (starts heads weights drive : List ℕ) (d : IsDrive starts heads drive
           }
 
   -- k positions in a row with k different nodes are a path of k nodes, whatever the weights
-  pub stretch-path : (i k : ℕ) → 1 ≤ k → i + k ≤ length drive → Different (stretch drive i k) → PathOf (road starts heads weights) k (stretch drive i k)
-  stretch-path i zero l h u = absurd (omega arith)
-  stretch-path i (suc k) l h u =
+  pub stretch_path : (i k : ℕ) → 1 ≤ k → i + k ≤ length drive → Different (stretch drive i k) → PathOf (road starts heads weights) k (stretch drive i k)
+  stretch_path i zero l h u = absurd (omega arith)
+  stretch_path i (suc k) l h u =
       let f = from i k (omega arith) in
       let whole = stretch_cons drive i k (omega arith) in
       record {

@@ -18,7 +18,7 @@ use Rattle.distance.specs.Questions.{Lone, WayIn, WayOut, AnyPair}
 use Rattle.distance.proofs.Demands.{answers_one}
 use Rattle.distance.proofs.Outcomes.{answers_of}
 use Rattle.examples.proofs.Deciding.{Decider, given, both, then, always, same, in_set, throughout, same_list, Below}
-use Rattle.examples.proofs.Listing.{Listing, Plus, carried, joined, plus, single, when, over, label, listing-told}
+use Rattle.examples.proofs.Listing.{Listing, Plus, carried, joined, plus, single, when, over, label, listing_told}
 use Rattle.examples.proofs.Overlaying.{outside, locals}
 use Rattle.examples.proofs.Trips.{PathWith, paths, reaches}
 
@@ -30,8 +30,8 @@ same_said x y =
 -- what is said of a set that is listed
 abbrev pub answers : {P : ℕ → Type 0} → Listing P → (said : Said) → Decider (Answers P said)
 answers {P} l said =
-    given (same_said (said_label (label l.list)) said) (λ e. subst (Answers P) e (answers_of (label l.list) (listing-told l)))
-    (λ a. answers_one (answers_of (label l.list) (listing-told l)) a)
+    given (same_said (said_label (label l.list)) said) (λ e. subst (Answers P) e (answers_of (label l.list) (listing_told l)))
+    (λ a. answers_one (answers_of (label l.list) (listing_told l)) a)
 
 module _ (starts heads weights chosen : List ℕ) where
   -- c is the only node of the set on the path from s
@@ -43,15 +43,15 @@ module _ (starts heads weights chosen : List ℕ) where
     lone_of p =
         record { after = p.after; path = subst (λ (e : ℕ). IsPath (road starts heads weights) s p.after e w) p.is.0 p.path; only = p.is.1 }
 
-    pub of-lone : Lone (road starts heads weights) chosen c s t w → PathWith starts heads weights (Only c s t) s w
-    of-lone r = record { after = r.after; last = t; path = r.path; is = (refl, r.only) }
+    pub of_lone : Lone (road starts heads weights) chosen c s t w → PathWith starts heads weights (Only c s t) s w
+    of_lone r = record { after = r.after; last = t; path = r.path; is = (refl, r.only) }
 
   abbrev pub lone : (c s t : ℕ) → Listing (Lone (road starts heads weights) chosen c s t)
   lone c s t =
       carried
       (paths starts heads weights (Only c s t)
       (λ l e. both (same e t) (throughout (λ (v : ℕ). InSet chosen v → v ≡ c) (λ v. then (in_set chosen v) (same v c)) (s ∷ l))) s)
-      (lone_of c s t) (of-lone c s t)
+      (lone_of c s t) (of_lone c s t)
 
   -- a gate of s at a: s itself at 0, or another node of the set at the weights of P
   abbrev pub Gate : ℕ → ℕ → (ℕ → Type 0) → ℕ → Type 0
@@ -61,36 +61,36 @@ module _ (starts heads weights chosen : List ℕ) where
   gate s a P l = joined (when (both (in_set chosen s) (same a s)) (λ h. single 0)) (when (both (outside chosen s) (in_set chosen a)) (λ h. l))
 
   module _ (s a x : ℕ) where
-    pub in-of : Gate s a (Lone (road starts heads weights) chosen a s a) x → WayIn (road starts heads weights) chosen s a x
-    in-of (inl g) = WayIn.itself g.0.0 g.0.1 g.1
-    in-of (inr g) = WayIn.reached g.0.0 g.0.1 g.1
+    pub in_of : Gate s a (Lone (road starts heads weights) chosen a s a) x → WayIn (road starts heads weights) chosen s a x
+    in_of (inl g) = WayIn.itself g.0.0 g.0.1 g.1
+    in_of (inr g) = WayIn.reached g.0.0 g.0.1 g.1
 
-    pub of-in : WayIn (road starts heads weights) chosen s a x → Gate s a (Lone (road starts heads weights) chosen a s a) x
-    of-in (WayIn.itself i e z) = inl ((i, e), z)
-    of-in (WayIn.reached n i l) = inr ((n, i), l)
+    pub of_in : WayIn (road starts heads weights) chosen s a x → Gate s a (Lone (road starts heads weights) chosen a s a) x
+    of_in (WayIn.itself i e z) = inl ((i, e), z)
+    of_in (WayIn.reached n i l) = inr ((n, i), l)
 
     pub out_of : Gate s a (Lone (road starts heads weights) chosen a a s) x → WayOut (road starts heads weights) chosen a s x
     out_of (inl g) = WayOut.itself g.0.0 g.0.1 g.1
     out_of (inr g) = WayOut.reached g.0.0 g.0.1 g.1
 
-    pub of-out : WayOut (road starts heads weights) chosen a s x → Gate s a (Lone (road starts heads weights) chosen a a s) x
-    of-out (WayOut.itself i e z) = inl ((i, e), z)
-    of-out (WayOut.reached n i l) = inr ((n, i), l)
+    pub of_out : WayOut (road starts heads weights) chosen a s x → Gate s a (Lone (road starts heads weights) chosen a a s) x
+    of_out (WayOut.itself i e z) = inl ((i, e), z)
+    of_out (WayOut.reached n i l) = inr ((n, i), l)
 
-  abbrev pub waysIn : (s a : ℕ) → Listing (WayIn (road starts heads weights) chosen s a)
-  waysIn s a = carried (gate s a (Lone (road starts heads weights) chosen a s a) (lone a s a)) (in-of s a) (of-in s a)
+  abbrev pub ways_in : (s a : ℕ) → Listing (WayIn (road starts heads weights) chosen s a)
+  ways_in s a = carried (gate s a (Lone (road starts heads weights) chosen a s a) (lone a s a)) (in_of s a) (of_in s a)
 
-  abbrev pub waysOut : (t b : ℕ) → Listing (WayOut (road starts heads weights) chosen b t)
-  waysOut t b = carried (gate t b (Lone (road starts heads weights) chosen b b t) (lone b b t)) (out_of t b) (of-out t b)
+  abbrev pub ways_out : (t b : ℕ) → Listing (WayOut (road starts heads weights) chosen b t)
+  ways_out t b = carried (gate t b (Lone (road starts heads weights) chosen b b t) (lone b b t)) (out_of t b) (of_out t b)
 
   -- a way in leads to a node of the set, and a way out from one
-  entry-node : (s a x : ℕ) → WayIn (road starts heads weights) chosen s a x → a < length chosen
-  entry-node s a x (WayIn.itself i e z) = omega (arith, in_bytes chosen s i)
-  entry-node s a x (WayIn.reached n i l) = in_bytes chosen a i
+  entry_node : (s a x : ℕ) → WayIn (road starts heads weights) chosen s a x → a < length chosen
+  entry_node s a x (WayIn.itself i e z) = omega (arith, in_bytes chosen s i)
+  entry_node s a x (WayIn.reached n i l) = in_bytes chosen a i
 
-  exit-node : (t b z : ℕ) → WayOut (road starts heads weights) chosen b t z → b < length chosen
-  exit-node t b z (WayOut.itself i e q) = omega (arith, in_bytes chosen t i)
-  exit-node t b z (WayOut.reached n i l) = in_bytes chosen b i
+  exit_node : (t b z : ℕ) → WayOut (road starts heads weights) chosen b t z → b < length chosen
+  exit_node t b z (WayOut.itself i e q) = omega (arith, in_bytes chosen t i)
+  exit_node t b z (WayOut.reached n i l) = in_bytes chosen b i
 
   module _ (starts' heads' weights' : List ℕ) (s t : ℕ) where
     abbrev pub Three : ℕ → ℕ → ℕ → Type 0
@@ -115,19 +115,19 @@ module _ (starts heads weights chosen : List ℕ) where
         inr
         (record {
           number = a;
-          below = entry-node s a x i;
+          below = entry_node s a x i;
           is =
               record {
                 number = b;
-                below = exit-node t b z o;
+                below = exit_node t b z o;
                 is = record { left = x + y; right = z; in_left = record { left = x; right = y; in_left = i; in_right = r; total = refl }; in_right = o; total = e };
               };
         })
 
-    abbrev pub anyPair : Listing (AnyPair (road starts heads weights) (road starts' heads' weights') chosen s t)
-    anyPair =
+    abbrev pub any_pair : Listing (AnyPair (road starts heads weights) (road starts' heads' weights') chosen s t)
+    any_pair =
         carried
         (joined (locals starts heads weights chosen s t)
         (over (λ (a w : ℕ). Below (length chosen) (λ (b : ℕ). Three a b w))
-        (λ a. over (Three a) (λ b. plus (plus (waysIn s a) (reaches starts' heads' weights' Any (λ v. always tt) a b)) (waysOut t b)) (length chosen)) (length chosen)))
+        (λ a. over (Three a) (λ b. plus (plus (ways_in s a) (reaches starts' heads' weights' Any (λ v. always tt) a b)) (ways_out t b)) (length chosen)) (length chosen)))
         pair_of of_pair

@@ -9,9 +9,9 @@ use Rattle.paths.specs.Lists.{Mem}
 use Rattle.road.specs.workings.Verdicts.{Tells}
 use Rattle.road.specs.Roads.{nodes_of, road}
 use Rattle.rule.specs.Rule.{Dropped, Needed, Prunes, done, keep, drop, Pruned, PathOf}
-use Rattle.rule.proofs.Rules.{prunes-one}
+use Rattle.rule.proofs.Rules.{prunes_one}
 use Rattle.examples.proofs.Deciding.{Decider, given, both, then, same, unlike, some, member, throughout, same_list, Below}
-use Rattle.examples.proofs.Listing.{hasSome}
+use Rattle.examples.proofs.Listing.{has_some}
 use Rattle.examples.proofs.Trips.{PathWith, paths}
 
 -- v is on the path, and otherwise only dropped nodes; the path has k nodes
@@ -38,8 +38,8 @@ module _ (starts heads weights : List ℕ) (k : ℕ) (cover : List ℕ) (v : ℕ
         others = p.is.1.1;
       }
 
-  pub of-needed : Needed (PathOf (road starts heads weights) k) cover v → Below (nodes_of starts) (λ (a : ℕ). (w : ℕ) × KeepsFrom a w)
-  of-needed n =
+  pub of_needed : Needed (PathOf (road starts heads weights) k) cover v → Below (nodes_of starts) (λ (a : ℕ). (w : ℕ) × KeepsFrom a w)
+  of_needed n =
       let c = n.counts in
       let kept : Keeps k cover v n.path = (c.nodes, (n.on, n.others)) in
       record {
@@ -51,7 +51,7 @@ module _ (starts heads weights : List ℕ) (k : ℕ) (cover : List ℕ) (v : ℕ
   abbrev pub needed : Decider (Needed (PathOf (road starts heads weights) k) cover v)
   needed =
       given (some (λ (a : ℕ). (w : ℕ) × KeepsFrom a w) (nodes_of starts)
-      (λ a. hasSome (paths starts heads weights (λ (l : List ℕ) (e : ℕ). Keeps k cover v (a ∷ l)) (λ l e. keeps k cover v (a ∷ l)) a))) needed_of of-needed
+      (λ a. has_some (paths starts heads weights (λ (l : List ℕ) (e : ℕ). Keeps k cover v (a ∷ l)) (λ l e. keeps k cover v (a ∷ l)) a))) needed_of of_needed
 
 module _ (Counts : List ℕ → Type 0) (needs : (cover : List ℕ) (v : ℕ) → Decider (Needed Counts cover v)) where
   abbrev pub taken : Bool → List ℕ → ℕ → List ℕ
@@ -71,9 +71,9 @@ module _ (Counts : List ℕ → Type 0) (needs : (cover : List ℕ) (v : ℕ) �
       by true t rest = keep (t.yes refl) (rest cover)
       by false t rest = drop (t.no refl) (rest (set cover v 0))
 
-  pub prunes-to : (order cover bytes : List ℕ) → left order cover ≡ bytes → Prunes Counts order cover bytes
-  prunes-to order cover bytes e = subst (λ (l : List ℕ). Prunes Counts order cover l) e (prunes order cover)
+  pub prunes_to : (order cover bytes : List ℕ) → left order cover ≡ bytes → Prunes Counts order cover bytes
+  prunes_to order cover bytes e = subst (λ (l : List ℕ). Prunes Counts order cover l) e (prunes order cover)
 
   abbrev pub pruned : (n : ℕ) (order bytes : List ℕ) → Decider (Pruned Counts n order bytes)
   pruned n order bytes =
-      given (same_list (left order (replicate n 1)) bytes) (prunes-to order (replicate n 1) bytes) (λ p. prunes-one (prunes order (replicate n 1)) p)
+      given (same_list (left order (replicate n 1)) bytes) (prunes_to order (replicate n 1) bytes) (λ p. prunes_one (prunes order (replicate n 1)) p)

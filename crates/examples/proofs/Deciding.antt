@@ -27,36 +27,36 @@ pub holds : {P : Type 0} (d : Decider P) → T d.answer → P
 holds d t = d.right.yes (so d.answer t)
 
 module _ {P Q : Type 0} where
-  pub tells-carry : {b : Bool} → Tells b P → (P → Q) → (Q → P) → Tells b Q
-  tells-carry t f g = record { yes = λ e. f (t.yes e); no = λ e q. t.no e (g q) }
+  pub tells_carry : {b : Bool} → Tells b P → (P → Q) → (Q → P) → Tells b Q
+  tells_carry t f g = record { yes = λ e. f (t.yes e); no = λ e q. t.no e (g q) }
 
   pub tells_both : (b c : Bool) → Tells b P → Tells c Q → Tells (b && c) (P × Q)
   tells_both true true t u = tells_yes (t.yes refl, u.yes refl)
   tells_both true false t u = tells_no (λ p. u.no refl p.1)
   tells_both false c t u = tells_no (λ p. t.no refl p.0)
 
-  pub tells-either : (b c : Bool) → Tells b P → Tells c Q → Tells (b || c) (P ⊎ Q)
-  tells-either true c t u = tells_yes (inl (t.yes refl))
-  tells-either false true t u = tells_yes (inr (u.yes refl))
-  tells-either false false t u = tells_no (⊎_elim (t.no refl) (u.no refl))
+  pub tells_either : (b c : Bool) → Tells b P → Tells c Q → Tells (b || c) (P ⊎ Q)
+  tells_either true c t u = tells_yes (inl (t.yes refl))
+  tells_either false true t u = tells_yes (inr (u.yes refl))
+  tells_either false false t u = tells_no (⊎_elim (t.no refl) (u.no refl))
 
-  pub tells-then : (b c : Bool) → Tells b P → Tells c Q → Tells (not b || c) (P → Q)
-  tells-then true true t u = tells_yes (λ p. u.yes refl)
-  tells-then true false t u = tells_no (λ f. u.no refl (f (t.yes refl)))
-  tells-then false c t u = tells_yes (λ p. absurd (t.no refl p))
+  pub tells_then : (b c : Bool) → Tells b P → Tells c Q → Tells (not b || c) (P → Q)
+  tells_then true true t u = tells_yes (λ p. u.yes refl)
+  tells_then true false t u = tells_no (λ f. u.no refl (f (t.yes refl)))
+  tells_then false c t u = tells_yes (λ p. absurd (t.no refl p))
 
   -- the same answer, to what comes to the same
   abbrev pub given : Decider P → (P → Q) → (Q → P) → Decider Q
-  given d f g = record { answer = d.answer; right = tells-carry d.right f g }
+  given d f g = record { answer = d.answer; right = tells_carry d.right f g }
 
   abbrev pub both : Decider P → Decider Q → Decider (P × Q)
   both d e = record { answer = d.answer && e.answer; right = tells_both d.answer e.answer d.right e.right }
 
   abbrev pub either : Decider P → Decider Q → Decider (P ⊎ Q)
-  either d e = record { answer = d.answer || e.answer; right = tells-either d.answer e.answer d.right e.right }
+  either d e = record { answer = d.answer || e.answer; right = tells_either d.answer e.answer d.right e.right }
 
   abbrev pub then : Decider P → Decider Q → Decider (P → Q)
-  then d e = record { answer = not d.answer || e.answer; right = tells-then d.answer e.answer d.right e.right }
+  then d e = record { answer = not d.answer || e.answer; right = tells_then d.answer e.answer d.right e.right }
 
 module _ {P : Type 0} where
   abbrev pub always : P → Decider P
@@ -123,8 +123,8 @@ module _ (P : ℕ → Type 0) where
   some_more n (inl p) = record { number = n; below = omega arith; is = p }
   some_more n (inr b) = record { number = b.number; below = omega (arith, b.below); is = b.is }
 
-  pub some-less : (n : ℕ) → Below (suc n) P → P n ⊎ Below n P
-  some-less n b = by (ℕ_discrete b.number n)
+  pub some_less : (n : ℕ) → Below (suc n) P → P n ⊎ Below n P
+  some_less n b = by (ℕ_discrete b.number n)
     where
       by : Dec (b.number ≡ n) → P n ⊎ Below n P
       by (yes e) = inl (subst P e b.is)
@@ -134,17 +134,17 @@ module _ (P : ℕ → Type 0) where
     pub tells_all : (n : ℕ) → Tells (all_below f n) ((i : ℕ) → i < n → P i)
     tells_all zero = tells_yes (λ i h. absurd (omega arith))
     tells_all (suc n) =
-        tells-carry (tells_both (f n) (all_below f n) (t n) (tells_all n)) (all_more n) (λ g. (g n (omega arith), λ i h. g i (omega arith)))
+        tells_carry (tells_both (f n) (all_below f n) (t n) (tells_all n)) (all_more n) (λ g. (g n (omega arith), λ i h. g i (omega arith)))
 
-    pub tells-some : (n : ℕ) → Tells (some_below f n) (Below n P)
-    tells-some zero = tells_no (λ b. omega (arith, b.below))
-    tells-some (suc n) = tells-carry (tells-either (f n) (some_below f n) (t n) (tells-some n)) (some_more n) (some-less n)
+    pub tells_some : (n : ℕ) → Tells (some_below f n) (Below n P)
+    tells_some zero = tells_no (λ b. omega (arith, b.below))
+    tells_some (suc n) = tells_carry (tells_either (f n) (some_below f n) (t n) (tells_some n)) (some_more n) (some_less n)
 
   abbrev pub all : (n : ℕ) → ((i : ℕ) → Decider (P i)) → Decider ((i : ℕ) → i < n → P i)
   all n d = record { answer = all_below (λ (i : ℕ). (d i).answer) n; right = tells_all (λ (i : ℕ). (d i).answer) (λ i. (d i).right) n }
 
   abbrev pub some : (n : ℕ) → ((i : ℕ) → Decider (P i)) → Decider (Below n P)
-  some n d = record { answer = some_below (λ (i : ℕ). (d i).answer) n; right = tells-some (λ (i : ℕ). (d i).answer) (λ i. (d i).right) n }
+  some n d = record { answer = some_below (λ (i : ℕ). (d i).answer) n; right = tells_some (λ (i : ℕ). (d i).answer) (λ i. (d i).right) n }
 
 -- lists of numbers
 

@@ -28,26 +28,26 @@ module _ (L : Limits) (starts heads weights : List ℕ) where
   SizesParts =
       (length starts < 2) ⊎ ((most_nodes + 1 < length starts) ⊎ ((length heads ≢ length weights) ⊎ ((L.arcs.0 < length heads) ⊎ (L.arcs.0 < length weights))))
 
-  pub sizes-of : SizesParts → BadSizes L starts heads weights
-  sizes-of (inl h) = BadSizes.few_starts h
-  sizes-of (inr (inl h)) = BadSizes.many_starts h
-  sizes-of (inr (inr (inl h))) = BadSizes.unlike h
-  sizes-of (inr (inr (inr (inl h)))) = BadSizes.many_heads h
-  sizes-of (inr (inr (inr (inr h)))) = BadSizes.many_weights h
+  pub sizes_of : SizesParts → BadSizes L starts heads weights
+  sizes_of (inl h) = BadSizes.few_starts h
+  sizes_of (inr (inl h)) = BadSizes.many_starts h
+  sizes_of (inr (inr (inl h))) = BadSizes.unlike h
+  sizes_of (inr (inr (inr (inl h)))) = BadSizes.many_heads h
+  sizes_of (inr (inr (inr (inr h)))) = BadSizes.many_weights h
 
-  pub of-sizes : BadSizes L starts heads weights → SizesParts
-  of-sizes (BadSizes.few_starts h) = inl h
-  of-sizes (BadSizes.many_starts h) = inr (inl h)
-  of-sizes (BadSizes.unlike h) = inr (inr (inl h))
-  of-sizes (BadSizes.many_heads h) = inr (inr (inr (inl h)))
-  of-sizes (BadSizes.many_weights h) = inr (inr (inr (inr h)))
+  pub of_sizes : BadSizes L starts heads weights → SizesParts
+  of_sizes (BadSizes.few_starts h) = inl h
+  of_sizes (BadSizes.many_starts h) = inr (inl h)
+  of_sizes (BadSizes.unlike h) = inr (inr (inl h))
+  of_sizes (BadSizes.many_heads h) = inr (inr (inr (inl h)))
+  of_sizes (BadSizes.many_weights h) = inr (inr (inr (inr h)))
 
-  abbrev pub badSizes : Decider (BadSizes L starts heads weights)
-  badSizes =
+  abbrev pub bad_sizes : Decider (BadSizes L starts heads weights)
+  bad_sizes =
       given
       (either (less (length starts) 2)
       (either (less (most_nodes + 1) (length starts))
-      (either (unlike (length heads) (length weights)) (either (less L.arcs.0 (length heads)) (less L.arcs.0 (length weights)))))) sizes-of of-sizes
+      (either (unlike (length heads) (length weights)) (either (less L.arcs.0 (length heads)) (less L.arcs.0 (length weights)))))) sizes_of of_sizes
 
   abbrev pub Falls : ℕ → Type 0
   Falls u = (u + 1 < length starts) × (get_or starts (u + 1) 0 < get_or starts u 0)
@@ -55,32 +55,32 @@ module _ (L : Limits) (starts heads weights : List ℕ) where
   abbrev pub StartsParts : Type 0
   StartsParts = (get_or starts 0 0 ≢ 0) ⊎ (Below (length starts) Falls ⊎ (get_or starts (nodes_of starts) 0 ≢ length heads))
 
-  pub starts-of : StartsParts → BadStarts starts heads
-  starts-of (inl h) = BadStarts.first h
-  starts-of (inr (inl b)) = BadStarts.falls b.number b.is.0 b.is.1
-  starts-of (inr (inr h)) = BadStarts.last h
+  pub starts_of : StartsParts → BadStarts starts heads
+  starts_of (inl h) = BadStarts.first h
+  starts_of (inr (inl b)) = BadStarts.falls b.number b.is.0 b.is.1
+  starts_of (inr (inr h)) = BadStarts.last h
 
-  pub of-starts : BadStarts starts heads → StartsParts
-  of-starts (BadStarts.first h) = inl h
-  of-starts (BadStarts.falls u h l) = inr (inl (record { number = u; below = omega arith; is = (h, l) }))
-  of-starts (BadStarts.last h) = inr (inr h)
+  pub of_starts : BadStarts starts heads → StartsParts
+  of_starts (BadStarts.first h) = inl h
+  of_starts (BadStarts.falls u h l) = inr (inl (record { number = u; below = omega arith; is = (h, l) }))
+  of_starts (BadStarts.last h) = inr (inr h)
 
-  abbrev pub badStarts : Decider (BadStarts starts heads)
-  badStarts =
+  abbrev pub bad_starts : Decider (BadStarts starts heads)
+  bad_starts =
       given
       (either (unlike (get_or starts 0 0) 0)
       (either (some Falls (length starts) (λ u. both (less (u + 1) (length starts)) (less (get_or starts (u + 1) 0) (get_or starts u 0))))
-      (unlike (get_or starts (nodes_of starts) 0) (length heads)))) starts-of of-starts
+      (unlike (get_or starts (nodes_of starts) 0) (length heads)))) starts_of of_starts
 
   module _ (p : ℕ) where
-    abbrev pub headOutside : Decider (HeadOutside starts heads p)
-    headOutside = given (at_most (nodes_of starts) (get_or heads p 0)) (λ h. record { outside = h }) (λ o. o.outside)
+    abbrev pub head_outside : Decider (HeadOutside starts heads p)
+    head_outside = given (at_most (nodes_of starts) (get_or heads p 0)) (λ h. record { outside = h }) (λ o. o.outside)
 
-    pub of-tail : HeadIsTail starts heads p → Owns starts (get_or heads p 0) p
-    of-tail o = subst (λ (u : ℕ). Owns starts u p) (sym o.same) o.owned
+    pub of_tail : HeadIsTail starts heads p → Owns starts (get_or heads p 0) p
+    of_tail o = subst (λ (u : ℕ). Owns starts u p) (sym o.same) o.owned
 
-    abbrev pub headIsTail : Decider (HeadIsTail starts heads p)
-    headIsTail = given (owns starts (get_or heads p 0) p) (λ o. record { tail = get_or heads p 0; owned = o; same = refl }) of-tail
+    abbrev pub head_is_tail : Decider (HeadIsTail starts heads p)
+    head_is_tail = given (owns starts (get_or heads p 0) p) (λ o. record { tail = get_or heads p 0; owned = o; same = refl }) of_tail
 
     -- the place before p is the same tail's, and its head is not lower
     abbrev pub Fallen : ℕ → Type 0
@@ -89,8 +89,8 @@ module _ (L : Limits) (starts heads weights : List ℕ) where
     pub falls_of : Below (nodes_of starts) Fallen → HeadFalls starts heads p
     falls_of b = record { tail = b.number; former = p - 1; next = b.is.0; before = b.is.1.0; owned = b.is.1.1.0; falls = b.is.1.1.1 }
 
-    pub of-falls : HeadFalls starts heads p → Below (nodes_of starts) Fallen
-    of-falls f =
+    pub of_falls : HeadFalls starts heads p → Below (nodes_of starts) Fallen
+    of_falls f =
         let here : f.former ≡ p - 1 = omega (arith, f.next) in
         record {
           number = f.tail;
@@ -104,55 +104,55 @@ module _ (L : Limits) (starts heads weights : List ℕ) where
           );
         }
 
-    abbrev pub headFalls : Decider (HeadFalls starts heads p)
-    headFalls =
+    abbrev pub head_falls : Decider (HeadFalls starts heads p)
+    head_falls =
         given
         (some Fallen (nodes_of starts)
-        (λ u. both (same p (p - 1 + 1)) (both (owns starts u (p - 1)) (both (owns starts u p) (at_most (get_or heads p 0) (get_or heads (p - 1) 0)))))) falls_of of-falls
+        (λ u. both (same p (p - 1 + 1)) (both (owns starts u (p - 1)) (both (owns starts u p) (at_most (get_or heads p 0) (get_or heads (p - 1) 0)))))) falls_of of_falls
 
-    abbrev pub tooHeavy : Decider (TooHeavy L weights p)
-    tooHeavy = given (less L.weight (get_or weights p 0)) (λ h. record { over = h }) (λ o. o.over)
+    abbrev pub too_heavy : Decider (TooHeavy L weights p)
+    too_heavy = given (less L.weight (get_or weights p 0)) (λ h. record { over = h }) (λ o. o.over)
 
-    abbrev pub arcChecks : Checks (arc_faults L starts heads weights p)
-    arcChecks = (check Arcs headOutside, (check Arcs headIsTail, (check Arcs headFalls, (check Arcs tooHeavy, tt))))
+    abbrev pub arc_checks : Checks (arc_faults L starts heads weights p)
+    arc_checks = (check Arcs head_outside, (check Arcs head_is_tail, (check Arcs head_falls, (check Arcs too_heavy, tt))))
 
-    pub arcs-alone : (s : Refusal) → First (arc_faults L starts heads weights p) s → s ≡ Arcs
-    arcs-alone s (inl f) = f.is
-    arcs-alone s (inr (_, inl f)) = f.is
-    arcs-alone s (inr (_, inr (_, inl f))) = f.is
-    arcs-alone s (inr (_, inr (_, inr (_, inl f)))) = f.is
-    arcs-alone s (inr (_, inr (_, inr (_, inr (_, z))))) = absurd z
+    pub arcs_alone : (s : Refusal) → First (arc_faults L starts heads weights p) s → s ≡ Arcs
+    arcs_alone s (inl f) = f.is
+    arcs_alone s (inr (_, inl f)) = f.is
+    arcs_alone s (inr (_, inr (_, inl f))) = f.is
+    arcs_alone s (inr (_, inr (_, inr (_, inl f)))) = f.is
+    arcs_alone s (inr (_, inr (_, inr (_, inr (_, z))))) = absurd z
 
   abbrev pub FirstBad : ℕ → Type 0
   FirstBad p = ((r : Refusal) × First (arc_faults L starts heads weights p) r) × ((q : ℕ) → q < p → None (arc_faults L starts heads weights q))
 
-  pub arcs-of : Below (length heads) FirstBad → ArcFault L starts heads weights Arcs
-  arcs-of b =
+  pub arcs_of : Below (length heads) FirstBad → ArcFault L starts heads weights Arcs
+  arcs_of b =
       let f = b.is.0 in
       record {
         place = b.number;
         listed = b.below;
-        here = subst (λ (r : Refusal). First (arc_faults L starts heads weights b.number) r) (arcs-alone b.number f.0 f.1) f.1;
+        here = subst (λ (r : Refusal). First (arc_faults L starts heads weights b.number) r) (arcs_alone b.number f.0 f.1) f.1;
         before = b.is.1;
       }
 
-  pub of-arcs : ArcFault L starts heads weights Arcs → Below (length heads) FirstBad
-  of-arcs f = record { number = f.place; below = f.listed; is = ((Arcs, f.here), f.before) }
+  pub of_arcs : ArcFault L starts heads weights Arcs → Below (length heads) FirstBad
+  of_arcs f = record { number = f.place; below = f.listed; is = ((Arcs, f.here), f.before) }
 
-  abbrev pub arcCheck : Check (ArcFault L starts heads weights)
-  arcCheck =
+  abbrev pub arc_check : Check (ArcFault L starts heads weights)
+  arc_check =
       record {
         tells = Arcs;
-        only = λ s f. arcs-alone f.place s f.here;
+        only = λ s f. arcs_alone f.place s f.here;
         test =
             given
             (some FirstBad (length heads)
-            (λ p. both (some_first (arc_faults L starts heads weights p) (arcChecks p))
-            (all (λ (q : ℕ). None (arc_faults L starts heads weights q)) p (λ q. none_of (arc_faults L starts heads weights q) (arcChecks q))))) arcs-of of-arcs;
+            (λ p. both (some_first (arc_faults L starts heads weights p) (arc_checks p))
+            (all (λ (q : ℕ). None (arc_faults L starts heads weights q)) p (λ q. none_of (arc_faults L starts heads weights q) (arc_checks q))))) arcs_of of_arcs;
       }
 
-  abbrev pub graphChecks : Checks (graph_faults L starts heads weights)
-  graphChecks = (check Sizes badSizes, (check Starts badStarts, (arcCheck, tt)))
+  abbrev pub graph_checks : Checks (graph_faults L starts heads weights)
+  graph_checks = (check Sizes bad_sizes, (check Starts bad_starts, (arc_check, tt)))
 
 -- 4
 pub k_of : (k : ℕ) → (k ≡ 0) ⊎ (most_k < k) → BadK k
@@ -177,17 +177,17 @@ module _ (n : ℕ) (bytes : List ℕ) where
   abbrev pub OtherByte : ℕ → Type 0
   OtherByte v = (get_or bytes v 0 ≢ 0) × (get_or bytes v 0 ≢ 1)
 
-  pub set-of : (length bytes ≢ n) ⊎ Below (length bytes) OtherByte → BadSet n bytes
-  set-of (inl h) = BadSet.unlike h
-  set-of (inr b) = BadSet.other b.number b.below b.is.0 b.is.1
+  pub set_of : (length bytes ≢ n) ⊎ Below (length bytes) OtherByte → BadSet n bytes
+  set_of (inl h) = BadSet.unlike h
+  set_of (inr b) = BadSet.other b.number b.below b.is.0 b.is.1
 
-  pub of-set : BadSet n bytes → (length bytes ≢ n) ⊎ Below (length bytes) OtherByte
-  of-set (BadSet.unlike h) = inl h
-  of-set (BadSet.other v h x y) = inr (record { number = v; below = h; is = (x, y) })
+  pub of_set : BadSet n bytes → (length bytes ≢ n) ⊎ Below (length bytes) OtherByte
+  of_set (BadSet.unlike h) = inl h
+  of_set (BadSet.other v h x y) = inr (record { number = v; below = h; is = (x, y) })
 
-  abbrev pub badSet : Decider (BadSet n bytes)
-  badSet =
-      given (either (unlike (length bytes) n) (some OtherByte (length bytes) (λ v. both (unlike (get_or bytes v 0) 0) (unlike (get_or bytes v 0) 1)))) set-of of-set
+  abbrev pub bad_set : Decider (BadSet n bytes)
+  bad_set =
+      given (either (unlike (length bytes) n) (some OtherByte (length bytes) (λ v. both (unlike (get_or bytes v 0) 0) (unlike (get_or bytes v 0) 1)))) set_of of_set
 
 -- 7
 module _ (chosen starts heads weights : List ℕ) where
@@ -203,28 +203,28 @@ module _ (chosen starts heads weights : List ℕ) where
       (((r : Refusal) × First (graph_faults overlay_limits starts heads weights) r) ⊎
       (Below (length heads) (λ (p : ℕ). Below (nodes_of starts) (TailOut p)) ⊎ Below (length heads) HeadOut))
 
-  pub overlay-of : OverlayParts → BadOverlay chosen starts heads weights
-  overlay-of (inl h) = BadOverlay.unlike h
-  overlay-of (inr (inl f)) = BadOverlay.faulty f.0 f.1
-  overlay-of (inr (inr (inl b))) = BadOverlay.tail b.is.number b.number b.below b.is.is.0 b.is.is.1
-  overlay-of (inr (inr (inr b))) = BadOverlay.head b.number b.below b.is
+  pub overlay_of : OverlayParts → BadOverlay chosen starts heads weights
+  overlay_of (inl h) = BadOverlay.unlike h
+  overlay_of (inr (inl f)) = BadOverlay.faulty f.0 f.1
+  overlay_of (inr (inr (inl b))) = BadOverlay.tail b.is.number b.number b.below b.is.is.0 b.is.is.1
+  overlay_of (inr (inr (inr b))) = BadOverlay.head b.number b.below b.is
 
-  pub of-overlay : BadOverlay chosen starts heads weights → OverlayParts
-  of-overlay (BadOverlay.unlike h) = inl h
-  of-overlay (BadOverlay.faulty r f) = inr (inl (r, f))
-  of-overlay (BadOverlay.tail u p h o n) = inr (inr (inl (record { number = p; below = h; is = record { number = u; below = owner_node starts u p o; is = (o, n) } })))
-  of-overlay (BadOverlay.head p h n) = inr (inr (inr (record { number = p; below = h; is = n })))
+  pub of_overlay : BadOverlay chosen starts heads weights → OverlayParts
+  of_overlay (BadOverlay.unlike h) = inl h
+  of_overlay (BadOverlay.faulty r f) = inr (inl (r, f))
+  of_overlay (BadOverlay.tail u p h o n) = inr (inr (inl (record { number = p; below = h; is = record { number = u; below = owner_node starts u p o; is = (o, n) } })))
+  of_overlay (BadOverlay.head p h n) = inr (inr (inr (record { number = p; below = h; is = n })))
 
-  abbrev pub badOverlay : Decider (BadOverlay chosen starts heads weights)
-  badOverlay =
+  abbrev pub bad_overlay : Decider (BadOverlay chosen starts heads weights)
+  bad_overlay =
       given
       (either (unlike (length starts) (length chosen + 1))
-      (either (some_first (graph_faults overlay_limits starts heads weights) (graphChecks overlay_limits starts heads weights))
+      (either (some_first (graph_faults overlay_limits starts heads weights) (graph_checks overlay_limits starts heads weights))
       (either
       (some (λ (p : ℕ). Below (nodes_of starts) (TailOut p)) (length heads)
       (λ p. some (TailOut p) (nodes_of starts) (λ u. both (owns starts u p) (fails (in_set chosen u)))))
       (some HeadOut (length heads) (λ p. fails (in_set chosen (get_or heads p 0)))))))
-      overlay-of of-overlay
+      overlay_of of_overlay
 
 -- 8
 module _ (n s t : ℕ) where
@@ -266,39 +266,39 @@ module _ (starts heads drive : List ℕ) where
   drive_of (inr (inr (inl b))) = BadDrive.outside b.number b.below b.is
   drive_of (inr (inr (inr b))) = BadDrive.apart b.number b.is.0 b.is.1
 
-  pub of-drive : BadDrive starts heads drive → DriveParts
-  of-drive (BadDrive.none h) = inl h
-  of-drive (BadDrive.many h) = inr (inl h)
-  of-drive (BadDrive.outside i h n) = inr (inr (inl (record { number = i; below = h; is = n })))
-  of-drive (BadDrive.apart i h n) = inr (inr (inr (record { number = i; below = omega arith; is = (h, n) })))
+  pub of_drive : BadDrive starts heads drive → DriveParts
+  of_drive (BadDrive.none h) = inl h
+  of_drive (BadDrive.many h) = inr (inl h)
+  of_drive (BadDrive.outside i h n) = inr (inr (inl (record { number = i; below = h; is = n })))
+  of_drive (BadDrive.apart i h n) = inr (inr (inr (record { number = i; below = omega arith; is = (h, n) })))
 
-  abbrev pub badDrive : Decider (BadDrive starts heads drive)
-  badDrive =
+  abbrev pub bad_drive : Decider (BadDrive starts heads drive)
+  bad_drive =
       given
       (either (same (length drive) 0)
       (either (less most_drive (length drive))
       (either (some NoPlace (length drive) (λ i. at_most (nodes_of starts) (get_or drive i 0)))
       (some Apart (length drive) (λ i. both (less (i + 1) (length drive)) (fails (joined starts heads (get_or drive i 0) (get_or drive (i + 1) 0))))))))
-      drive_of of-drive
+      drive_of of_drive
 
 -- what the calls look for
 module _ (starts heads weights : List ℕ) where
-  abbrev pub coverChecks : (k : ℕ) (order : List ℕ) → Checks (cover_faults starts heads weights k order)
-  coverChecks k order =
-      let g = graphChecks road_limits starts heads weights in
+  abbrev pub cover_checks : (k : ℕ) (order : List ℕ) → Checks (cover_faults starts heads weights k order)
+  cover_checks k order =
+      let g = graph_checks road_limits starts heads weights in
       (g.0, (g.1.0, (g.1.1.0, (check K (bad_k k), (check Order (fails (permutation (nodes_of starts) order)), tt)))))
 
-  abbrev pub setChecks : (set : List ℕ) → Checks (road_and_set_faults starts heads weights set)
-  setChecks set =
-      let g = graphChecks road_limits starts heads weights in
-      (g.0, (g.1.0, (g.1.1.0, (check Set (badSet (nodes_of starts) set), tt))))
+  abbrev pub set_checks : (set : List ℕ) → Checks (road_and_set_faults starts heads weights set)
+  set_checks set =
+      let g = graph_checks road_limits starts heads weights in
+      (g.0, (g.1.0, (g.1.1.0, (check Set (bad_set (nodes_of starts) set), tt))))
 
-  abbrev pub driveChecks : (set drive : List ℕ) → Checks (drive_faults starts heads weights set drive)
-  driveChecks set drive =
-      let s = setChecks set in
-      (s.0, (s.1.0, (s.1.1.0, (s.1.1.1.0, (check Drive (badDrive starts heads drive), tt)))))
+  abbrev pub drive_checks : (set drive : List ℕ) → Checks (drive_faults starts heads weights set drive)
+  drive_checks set drive =
+      let s = set_checks set in
+      (s.0, (s.1.0, (s.1.1.0, (s.1.1.1.0, (check Drive (bad_drive starts heads drive), tt)))))
 
-  abbrev pub pairChecks : (set starts' heads' weights' : List ℕ) (s t : ℕ) → Checks (pair_input starts heads weights set starts' heads' weights' s t)
-  pairChecks set starts' heads' weights' s t =
-      let c = setChecks set in
-      (c.0, (c.1.0, (c.1.1.0, (c.1.1.1.0, (check Overlay (badOverlay set starts' heads' weights'), (check Node (no_node (nodes_of starts) s t), tt))))))
+  abbrev pub pair_checks : (set starts' heads' weights' : List ℕ) (s t : ℕ) → Checks (pair_input starts heads weights set starts' heads' weights' s t)
+  pair_checks set starts' heads' weights' s t =
+      let c = set_checks set in
+      (c.0, (c.1.0, (c.1.1.0, (c.1.1.1.0, (check Overlay (bad_overlay set starts' heads' weights'), (check Node (no_node (nodes_of starts) s t), tt))))))

@@ -8,11 +8,11 @@ use native.Mathlib.Omega.{arith}
 use lib.Dec.{leb}
 use Rattle.paths.specs.Least.{Least, Told}
 use Rattle.paths.specs.Lists.{Mem}
-use Rattle.paths.proofs.Least.{told-carries}
+use Rattle.paths.proofs.Least.{told_carries}
 use Rattle.paths.proofs.Lists.{mem_left, mem_right, mem_cases}
 use Rattle.road.specs.workings.Verdicts.{Tells}
 use Rattle.road.proofs.Faults.{not_over}
-use Rattle.examples.proofs.Deciding.{Decider, given, both, always, never, member, throughout, at_most, tells_at_most, Below, some_more, some-less}
+use Rattle.examples.proofs.Deciding.{Decider, given, both, always, never, member, throughout, at_most, tells_at_most, Below, some_more, some_less}
 
 pub record Listing (P : ℕ → Type 0) : Type 0 where
   pub list : List ℕ
@@ -69,28 +69,28 @@ module _ {P Q : ℕ → Type 0} where
   abbrev pub carried : Listing P → ((w : ℕ) → P w → Q w) → ((w : ℕ) → Q w → P w) → Listing Q
   carried l f g = record { list = l.list; only = λ w h. f w (l.only w h); all = λ w q. l.all w (g w q) }
 
-  pub joined-only : (p : Listing P) (q : Listing Q) (w : ℕ) → Mem w (p.list ++ q.list) → P w ⊎ Q w
-  joined-only p q w h = ⊎_elim (λ m. inl (p.only w m)) (λ m. inr (q.only w m)) (mem_cases w p.list q.list h)
+  pub joined_only : (p : Listing P) (q : Listing Q) (w : ℕ) → Mem w (p.list ++ q.list) → P w ⊎ Q w
+  joined_only p q w h = ⊎_elim (λ m. inl (p.only w m)) (λ m. inr (q.only w m)) (mem_cases w p.list q.list h)
 
-  pub joined-all : (p : Listing P) (q : Listing Q) (w : ℕ) → P w ⊎ Q w → Mem w (p.list ++ q.list)
-  joined-all p q w (inl x) = mem_left w p.list q.list (p.all w x)
-  joined-all p q w (inr x) = mem_right w p.list q.list (q.all w x)
+  pub joined_all : (p : Listing P) (q : Listing Q) (w : ℕ) → P w ⊎ Q w → Mem w (p.list ++ q.list)
+  joined_all p q w (inl x) = mem_left w p.list q.list (p.all w x)
+  joined_all p q w (inr x) = mem_right w p.list q.list (q.all w x)
 
   abbrev pub joined : Listing P → Listing Q → Listing (λ (w : ℕ). P w ⊎ Q w)
-  joined p q = record { list = p.list ++ q.list; only = joined-only p q; all = joined-all p q }
+  joined p q = record { list = p.list ++ q.list; only = joined_only p q; all = joined_all p q }
 
-  pub plus-only : (p : Listing P) (q : Listing Q) (w : ℕ) → Mem w (sums p.list q.list) → Plus P Q w
-  plus-only p q w h =
+  pub plus_only : (p : Listing P) (q : Listing Q) (w : ℕ) → Mem w (sums p.list q.list) → Plus P Q w
+  plus_only p q w h =
       let s = sums_only p.list q.list w h in
       record { left = s.left; right = s.right; in_left = p.only s.left s.in_left; in_right = q.only s.right s.in_right; total = s.total }
 
-  pub plus-all : (p : Listing P) (q : Listing Q) (w : ℕ) → Plus P Q w → Mem w (sums p.list q.list)
-  plus-all p q w s =
+  pub plus_all : (p : Listing P) (q : Listing Q) (w : ℕ) → Plus P Q w → Mem w (sums p.list q.list)
+  plus_all p q w s =
       sums_all p.list q.list w
       (record { left = s.left; right = s.right; in_left = p.all s.left s.in_left; in_right = q.all s.right s.in_right; total = s.total })
 
   abbrev pub plus : Listing P → Listing Q → Listing (Plus P Q)
-  plus p q = record { list = sums p.list q.list; only = plus-only p q; all = plus-all p q }
+  plus p q = record { list = sums p.list q.list; only = plus_only p q; all = plus_all p q }
 
 module _ {P : ℕ → Type 0} where
   abbrev pub empty : ((w : ℕ) → P w → ⊥) → Listing P
@@ -101,36 +101,36 @@ single k = record { list = k ∷ []; only = λ w h. ⊎_elim (λ e. e) (λ z. ab
 
 -- the numbers of P where C holds. Nothing is listed before the test is passed.
 module _ {C : Type 0} {P : ℕ → Type 0} where
-  abbrev pub when-by : (b : Bool) → Tells b C → (C → Listing P) → Listing (λ (w : ℕ). C × P w)
-  when-by true t l = let c = t.yes refl in carried (l c) (λ w p. (c, p)) (λ w p. p.1)
-  when-by false t l = empty (λ w p. t.no refl p.0)
+  abbrev pub when_by : (b : Bool) → Tells b C → (C → Listing P) → Listing (λ (w : ℕ). C × P w)
+  when_by true t l = let c = t.yes refl in carried (l c) (λ w p. (c, p)) (λ w p. p.1)
+  when_by false t l = empty (λ w p. t.no refl p.0)
 
   abbrev pub when : Decider C → (C → Listing P) → Listing (λ (w : ℕ). C × P w)
-  when d l = when-by d.answer d.right l
+  when d l = when_by d.answer d.right l
 
 -- the numbers of all the sets P i with i below n
 module _ (P : ℕ → ℕ → Type 0) (l : (i : ℕ) → Listing (P i)) where
   abbrev pub over : (n : ℕ) → Listing (λ (w : ℕ). Below n (λ (i : ℕ). P i w))
   over zero = empty (λ w b. omega (arith, b.below))
-  over (suc n) = carried (joined (l n) (over n)) (λ w. some_more (λ (i : ℕ). P i w) n) (λ w. some-less (λ (i : ℕ). P i w) n)
+  over (suc n) = carried (joined (l n) (over n)) (λ w. some_more (λ (i : ℕ). P i w) n) (λ w. some_less (λ (i : ℕ). P i w) n)
 
 -- whether the set has a number, and what the least is
 module _ {P : ℕ → Type 0} where
-  abbrev pub has-by : (l : List ℕ) → ((w : ℕ) → Mem w l → P w) → ((w : ℕ) → P w → Mem w l) → Decider ((w : ℕ) × P w)
-  has-by [] only all = never (λ p. all p.0 p.1)
-  has-by (x ∷ l) only all = always (x, only x (inl refl))
+  abbrev pub has_by : (l : List ℕ) → ((w : ℕ) → Mem w l → P w) → ((w : ℕ) → P w → Mem w l) → Decider ((w : ℕ) × P w)
+  has_by [] only all = never (λ p. all p.0 p.1)
+  has_by (x ∷ l) only all = always (x, only x (inl refl))
 
-  abbrev pub hasSome : Listing P → Decider ((w : ℕ) × P w)
-  hasSome l = has-by l.list l.only l.all
+  abbrev pub has_some : Listing P → Decider ((w : ℕ) × P w)
+  has_some l = has_by l.list l.only l.all
 
   pub least_of : (l : Listing P) (d : ℕ) → Mem d l.list × ((x : ℕ) → Mem x l.list → d ≤ x) → Least P d
   least_of l d h = record { is = l.only d h.0; least = λ e p. h.1 e (l.all e p) }
 
-  pub of-least : (l : Listing P) (d : ℕ) → Least P d → Mem d l.list × ((x : ℕ) → Mem x l.list → d ≤ x)
-  of-least l d m = (l.all d m.is, λ x h. m.least x (l.only x h))
+  pub of_least : (l : Listing P) (d : ℕ) → Least P d → Mem d l.list × ((x : ℕ) → Mem x l.list → d ≤ x)
+  of_least l d m = (l.all d m.is, λ x h. m.least x (l.only x h))
 
-  abbrev pub isLeast : Listing P → (d : ℕ) → Decider (Least P d)
-  isLeast l d = given (both (member d l.list) (throughout (λ (x : ℕ). d ≤ x) (λ x. at_most d x) l.list)) (least_of l d) (of-least l d)
+  abbrev pub is_least : Listing P → (d : ℕ) → Decider (Least P d)
+  is_least l d = given (both (member d l.list) (throughout (λ (x : ℕ). d ≤ x) (λ x. at_most d x) l.list)) (least_of l d) (of_least l d)
 
 -- the label that tells the least number of a list: 0 for none, else one more
 
@@ -172,5 +172,5 @@ label_told [] = record { none = λ e. record { none = λ d h. h }; some = λ d e
 label_told (x ∷ l) = told_more x l (label l) (label_told l)
 
 module _ {P : ℕ → Type 0} where
-  pub listing-told : (l : Listing P) → Told P (label l.list)
-  listing-told l = told-carries (record { under = λ d h. (d, l.only d h, omega arith) }) (record { under = λ d p. (d, l.all d p, omega arith) }) (label_told l.list)
+  pub listing_told : (l : Listing P) → Told P (label l.list)
+  listing_told l = told_carries (record { under = λ d h. (d, l.only d h, omega arith) }) (record { under = λ d p. (d, l.all d p, omega arith) }) (label_told l.list)

@@ -9,7 +9,7 @@ use Rattle.road.specs.Roads.{nodes_of, road}
 use Rattle.overlay.specs.Overlays.{Outside, OverlayArc, HasArc, RowAt, OverlayOf}
 use Rattle.overlay.proofs.Locals.{in_bytes}
 use Rattle.examples.proofs.Deciding.{Decider, given, both, then, fails, same, unlike, at_most, less, in_set, all, some, Below}
-use Rattle.examples.proofs.Listing.{Listing, hasSome, isLeast}
+use Rattle.examples.proofs.Listing.{Listing, has_some, is_least}
 use Rattle.examples.proofs.Trips.{reaches}
 
 abbrev pub outside : (chosen : List ℕ) (v : ℕ) → Decider (Outside chosen v)
@@ -20,14 +20,14 @@ module _ (starts heads weights chosen : List ℕ) where
   abbrev pub locals : (a b : ℕ) → Listing (Reaches (road starts heads weights) (Outside chosen) a b)
   locals a b = reaches starts heads weights (Outside chosen) (outside chosen) a b
 
-  abbrev pub overlayArc : (a b w : ℕ) → Decider (OverlayArc (road starts heads weights) chosen a b w)
-  overlayArc a b w =
-      given (both (in_set chosen a) (both (in_set chosen b) (both (unlike a b) (isLeast (locals a b) w))))
+  abbrev pub overlay_arc : (a b w : ℕ) → Decider (OverlayArc (road starts heads weights) chosen a b w)
+  overlay_arc a b w =
+      given (both (in_set chosen a) (both (in_set chosen b) (both (unlike a b) (is_least (locals a b) w))))
       (λ p. record { tail = p.0; head = p.1.0; apart = p.1.1.0; least = p.1.1.1 }) (λ x. (x.tail, (x.head, (x.apart, x.least))))
 
-  abbrev pub hasArc : (a b : ℕ) → Decider (HasArc (road starts heads weights) chosen a b)
-  hasArc a b =
-      given (both (in_set chosen a) (both (in_set chosen b) (both (unlike a b) (hasSome (locals a b)))))
+  abbrev pub has_arc : (a b : ℕ) → Decider (HasArc (road starts heads weights) chosen a b)
+  has_arc a b =
+      given (both (in_set chosen a) (both (in_set chosen b) (both (unlike a b) (has_some (locals a b)))))
       (λ p. record { tail = p.0; head = p.1.0; apart = p.1.1.0; weight = p.1.1.1.0; some = p.1.1.1.1 })
       (λ x. (x.tail, (x.head, (x.apart, (x.weight, x.some)))))
 
@@ -71,12 +71,12 @@ module _ (starts heads weights chosen : List ℕ) where
         given
         (both (at_most from to)
         (both (all Ascends to (λ p. then (at_most from p) (then (less (p + 1) to) (less (get_or heads' p 0) (get_or heads' (p + 1) 0)))))
-        (both (all Written to (λ p. then (at_most from p) (overlayArc a (get_or heads' p 0) (get_or weights' p 0))))
-        (all Listed (length chosen) (λ b. then (hasArc a b) (some (At b) to (λ p. both (at_most from p) (same (get_or heads' p 0) b))))))))
+        (both (all Written to (λ p. then (at_most from p) (overlay_arc a (get_or heads' p 0) (get_or weights' p 0))))
+        (all Listed (length chosen) (λ b. then (has_arc a b) (some (At b) to (λ p. both (at_most from p) (same (get_or heads' p 0) b))))))))
         row_of of_row
 
-  abbrev pub overlayOf : (starts' heads' weights' : List ℕ) → Decider (OverlayOf (road starts heads weights) chosen starts' heads' weights')
-  overlayOf starts' heads' weights' =
+  abbrev pub overlay_of : (starts' heads' weights' : List ℕ) → Decider (OverlayOf (road starts heads weights) chosen starts' heads' weights')
+  overlay_of starts' heads' weights' =
       given
       (both (same (length starts') (nodes_of starts + 1))
       (both (same (get_or starts' 0 0) 0)

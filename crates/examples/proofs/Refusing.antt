@@ -42,8 +42,8 @@ module _ (F : Fault) (Fs : List Fault) (c : Check F) where
   here (inl f) = (c.tells, inl f)
   here (inr p) = (p.1.0, inr (p.0, p.1.1))
 
-  pub of-here : (r : Refusal) × First (F ∷ Fs) r → Here
-  of-here p = by p.0 p.1
+  pub of_here : (r : Refusal) × First (F ∷ Fs) r → Here
+  of_here p = by p.0 p.1
     where
       by : (r : Refusal) → First (F ∷ Fs) r → Here
       by r (inl f) = inl (subst F (c.only r f) f)
@@ -51,7 +51,7 @@ module _ (F : Fault) (Fs : List Fault) (c : Check F) where
 
 abbrev pub some_first : (Fs : List Fault) → Checks Fs → Decider ((r : Refusal) × First Fs r)
 some_first [] c = never (λ p. p.1)
-some_first (F ∷ Fs) c = given (either c.0.test (both (clear F c.0) (some_first Fs c.1))) (here F Fs c.0) (of-here F Fs c.0)
+some_first (F ∷ Fs) c = given (either c.0.test (both (clear F c.0) (some_first Fs c.1))) (here F Fs c.0) (of_here F Fs c.0)
 
 -- the same with its number
 module _ (F : Fault) (Fs : List Fault) (c : Check F) (number : ℕ) where
@@ -62,8 +62,8 @@ module _ (F : Fault) (Fs : List Fault) (c : Check F) (number : ℕ) where
   numbered (inl p) = record { refusal = c.tells; first = inl p.0; numbered = p.1 }
   numbered (inr p) = record { refusal = p.1.refusal; first = inr (p.0, p.1.first); numbered = p.1.numbered }
 
-  pub of-numbered : RefusedBy (F ∷ Fs) number → Numbered
-  of-numbered r = by r.refusal r.first r.numbered
+  pub of_numbered : RefusedBy (F ∷ Fs) number → Numbered
+  of_numbered r = by r.refusal r.first r.numbered
     where
       by : (s : Refusal) → First (F ∷ Fs) s → number_of s ≡ number → Numbered
       by s (inl f) e = inl (subst F (c.only s f) f, ap number_of (sym (c.only s f)) ∙ e)
@@ -73,4 +73,4 @@ abbrev pub refused_by : (Fs : List Fault) → Checks Fs → (number : ℕ) → D
 refused_by [] c number = never (λ r. r.first)
 refused_by (F ∷ Fs) c number =
     given (either (both c.0.test (same (number_of c.0.tells) number)) (both (clear F c.0) (refused_by Fs c.1 number))) (numbered F Fs c.0 number)
-    (of-numbered F Fs c.0 number)
+    (of_numbered F Fs c.0 number)

@@ -64,20 +64,20 @@ module _ (starts heads weights : List ℕ) where
   Begins Q f avoid a w = Stays Q a w ⊎ Below (length heads) (λ (p : ℕ). Onward Q f avoid a p w)
 
   module _ (Q : List ℕ → ℕ → Type 0) (avoid : List ℕ) (a : ℕ) where
-    pub trip-stays : (f w : ℕ) → Stays Q a w → Trip Q f avoid a w
-    trip-stays f w h =
+    pub trip_stays : (f w : ℕ) → Stays Q a w → Trip Q f avoid a w
+    trip_stays f w h =
         subst (λ (x : ℕ). Trip Q f avoid a x) (sym h.1)
         (record { after = []; last = a; along = stop; different = tt; free = tt; short = omega arith; is = h.0 })
 
-    pub stays-trip : (w : ℕ) → Trip Q 0 avoid a w → Stays Q a w
-    stays-trip w t = by t.along t.short t.is
+    pub stays_trip : (w : ℕ) → Trip Q 0 avoid a w → Stays Q a w
+    stays_trip w t = by t.along t.short t.is
       where
         by : {l : List ℕ} {b w : ℕ} → Along (road starts heads weights) a l b w → length l ≤ 0 → Q l b → Stays Q a w
         by stop h q = (q, refl)
         by (step s r) h q = absurd (omega arith)
 
-    onward-trip : (f w : ℕ) → Below (length heads) (λ (p : ℕ). Onward Q f avoid a p w) → Trip Q (suc f) avoid a w
-    onward-trip f w b = by b.number b.below b.is.0 b.is.1
+    onward_trip : (f w : ℕ) → Below (length heads) (λ (p : ℕ). Onward Q f avoid a p w) → Trip Q (suc f) avoid a w
+    onward_trip f w b = by b.number b.below b.is.0 b.is.1
       where
         by :
             (p : ℕ) → p < length heads → May avoid a p →
@@ -96,9 +96,9 @@ module _ (starts heads weights : List ℕ) where
               is = t.is;
             }
 
-    pub begins-trip : (f w : ℕ) → Begins Q f avoid a w → Trip Q (suc f) avoid a w
-    begins-trip f w (inl h) = trip-stays (suc f) w h
-    begins-trip f w (inr b) = onward-trip f w b
+    pub begins_trip : (f w : ℕ) → Begins Q f avoid a w → Trip Q (suc f) avoid a w
+    begins_trip f w (inl h) = trip_stays (suc f) w h
+    begins_trip f w (inr b) = onward_trip f w b
 
   module _ (Q : List ℕ → ℕ → Type 0) (f : ℕ) (avoid : List ℕ) where
     onward : {a x v d : ℕ} → Arc starts heads weights a x v → Trip (λ (m : List ℕ) (e : ℕ). Q (x ∷ m) e) f (x ∷ avoid) x d → (Mem x avoid → ⊥) →
@@ -127,8 +127,8 @@ module _ (starts heads weights : List ℕ) where
         (record { after = l; last = b; along = r; different = d.1; free = free_more x avoid l d.0 e.1; short = omega arith; is = q })
         e.0)
 
-    pub trip-begins : (a w : ℕ) → Trip Q (suc f) avoid a w → Begins Q f avoid a w
-    trip-begins a w t = begins t.along t.different t.free t.short t.is
+    pub trip_begins : (a w : ℕ) → Trip Q (suc f) avoid a w → Begins Q f avoid a w
+    trip_begins a w t = begins t.along t.different t.free t.short t.is
 
   abbrev pub may : (avoid : List ℕ) (a p : ℕ) → Decider (May avoid a p)
   may avoid a p = both (owns starts a p) (fails (member (get_or heads p 0) avoid))
@@ -137,7 +137,7 @@ module _ (starts heads weights : List ℕ) where
   stays Q q a = when (q [] a) (λ h. single 0)
 
   abbrev pub trips : (Q : List ℕ → ℕ → Type 0) → ((l : List ℕ) (e : ℕ) → Decider (Q l e)) → (f : ℕ) (avoid : List ℕ) (a : ℕ) → Listing (Trip Q f avoid a)
-  trips Q q zero avoid a = carried (stays Q q a) (trip-stays Q avoid a 0) (stays-trip Q avoid a)
+  trips Q q zero avoid a = carried (stays Q q a) (trip_stays Q avoid a 0) (stays_trip Q avoid a)
   trips Q q (suc f) avoid a =
       carried
       (joined (stays Q q a)
@@ -145,7 +145,7 @@ module _ (starts heads weights : List ℕ) where
       (λ p. when (may avoid a p)
       (λ h. plus (single (get_or weights p 0))
       (trips (λ (l : List ℕ) (e : ℕ). Q (get_or heads p 0 ∷ l) e) (λ l e. q (get_or heads p 0 ∷ l) e) f (get_or heads p 0 ∷ avoid) (get_or heads p 0)))) (length heads)))
-      (begins-trip Q avoid a f) (trip-begins Q f avoid a)
+      (begins_trip Q avoid a f) (trip_begins Q f avoid a)
 
   -- w is the weight of a path from a; of its nodes behind a and of its last, Q holds
   pub record PathWith (Q : List ℕ → ℕ → Type 0) (a w : ℕ) : Type 0 where
@@ -154,14 +154,14 @@ module _ (starts heads weights : List ℕ) where
     pub path : IsPath (road starts heads weights) a after last w
     pub is : Q after last
 
-  heads-on : {a b w : ℕ} {l : List ℕ} → Along (road starts heads weights) a l b w → (v : ℕ) → Mem v l → Mem v heads
-  heads-on stop v h = absurd h
-  heads-on (step s r) v (inl e) = subst (λ (y : ℕ). Mem y heads) (s.head ∙ sym e) (mem_at heads s.place s.listed)
-  heads-on (step s r) v (inr h) = heads-on r v h
+  heads_on : {a b w : ℕ} {l : List ℕ} → Along (road starts heads weights) a l b w → (v : ℕ) → Mem v l → Mem v heads
+  heads_on stop v h = absurd h
+  heads_on (step s r) v (inl e) = subst (λ (y : ℕ). Mem y heads) (s.head ∙ sym e) (mem_at heads s.place s.listed)
+  heads_on (step s r) v (inr h) = heads_on r v h
 
   module _ (Q : List ℕ → ℕ → Type 0) (a w : ℕ) where
-    pub path-of-trip : (a < nodes_of starts) × Trip Q (length heads) (a ∷ []) a w → PathWith Q a w
-    path-of-trip p =
+    pub path_of_trip : (a < nodes_of starts) × Trip Q (length heads) (a ∷ []) a w → PathWith Q a w
+    path_of_trip p =
         let t = p.1 in
         record {
           after = t.after;
@@ -170,8 +170,8 @@ module _ (starts heads weights : List ℕ) where
           is = t.is;
         }
 
-    pub trip-of-path : PathWith Q a w → (a < nodes_of starts) × Trip Q (length heads) (a ∷ []) a w
-    trip-of-path p = (
+    pub trip_of_path : PathWith Q a w → (a < nodes_of starts) × Trip Q (length heads) (a ∷ []) a w
+    trip_of_path p = (
       p.path.node,
       record {
         after = p.after;
@@ -179,23 +179,23 @@ module _ (starts heads weights : List ℕ) where
         along = p.path.along;
         different = p.path.different.1;
         free = free_more a [] p.after p.path.different.0 (free_none p.after);
-        short = length_at_most p.after heads p.path.different.1 (heads-on p.path.along);
+        short = length_at_most p.after heads p.path.different.1 (heads_on p.path.along);
         is = p.is;
       },
     )
 
   abbrev pub paths : (Q : List ℕ → ℕ → Type 0) → ((l : List ℕ) (e : ℕ) → Decider (Q l e)) → (a : ℕ) → Listing (PathWith Q a)
-  paths Q q a = carried (when (less a (nodes_of starts)) (λ h. trips Q q (length heads) (a ∷ []) a)) (path-of-trip Q a) (trip-of-path Q a)
+  paths Q q a = carried (when (less a (nodes_of starts)) (λ h. trips Q q (length heads) (a ∷ []) a)) (path_of_trip Q a) (trip_of_path Q a)
 
   module _ (P : ℕ → Type 0) (a b w : ℕ) where
     pub reaches_of : PathWith (λ (l : List ℕ) (e : ℕ). (e ≡ b) × Inside P l) a w → Reaches (road starts heads weights) P a b w
     reaches_of p =
         record { after = p.after; path = subst (λ (e : ℕ). IsPath (road starts heads weights) a p.after e w) p.is.0 p.path; inner = p.is.1 }
 
-    pub of-reaches : Reaches (road starts heads weights) P a b w → PathWith (λ (l : List ℕ) (e : ℕ). (e ≡ b) × Inside P l) a w
-    of-reaches r = record { after = r.after; last = b; path = r.path; is = (refl, r.inner) }
+    pub of_reaches : Reaches (road starts heads weights) P a b w → PathWith (λ (l : List ℕ) (e : ℕ). (e ≡ b) × Inside P l) a w
+    of_reaches r = record { after = r.after; last = b; path = r.path; is = (refl, r.inner) }
 
   -- the weights of the paths from a to b with P inside
   abbrev pub reaches : (P : ℕ → Type 0) → ((v : ℕ) → Decider (P v)) → (a b : ℕ) → Listing (Reaches (road starts heads weights) P a b)
   reaches P d a b =
-      carried (paths (λ (l : List ℕ) (e : ℕ). (e ≡ b) × Inside P l) (λ l e. both (same e b) (inside P d l)) a) (reaches_of P a b) (of-reaches P a b)
+      carried (paths (λ (l : List ℕ) (e : ℕ). (e ≡ b) × Inside P l) (λ l e. both (same e b) (inside P d l)) a) (reaches_of P a b) (of_reaches P a b)

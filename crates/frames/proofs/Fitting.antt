@@ -25,10 +25,10 @@ pub front_back : (k : ℕ) (l q : List ℕ) → k ≤ length l → length q ≡ 
 front_back k l q h e = take_at q (post_of 0 (k - 0) l) k (e ∙ front_size l k h)
 
 module _ (tails heads weights starts chosen starts' heads' weights' : List ℕ) (g : Lengths tails heads weights starts chosen starts' heads' weights') where
-  pub complete-fits :
+  pub complete_fits :
       (n m at : ℕ) (out : List ℕ) → n ≤ 512 → m ≤ 2048 → at + map_room ≤ length out →
       BuildFits (mid_of 0 (m - 0) tails) (mid_of 0 (m - 0) heads) (mid_of 0 (n + 1 - 0) starts) (mid_of 0 (n - 0) chosen) (mid_of 0 (n + 1 - 0) starts') heads' weights' at out
-  complete-fits n m at out a b c =
+  complete_fits n m at out a b c =
       let s = front_size starts (n + 1) (omega (arith, g.starts_long)) in
       let s' = front_size starts' (n + 1) (omega (arith, g.over_starts_long)) in
       let h = front_size heads m (omega (arith, g.heads_long)) in
@@ -46,8 +46,8 @@ module _ (tails heads weights starts chosen starts' heads' weights' : List ℕ) 
         space = c;
       }
 
-  pub lengths-set : (i x y z : ℕ) → Lengths (set tails i x) (set heads i y) (set weights i z) starts chosen starts' heads' weights'
-  lengths-set i x y z =
+  pub lengths_set : (i x y z : ℕ) → Lengths (set tails i x) (set heads i y) (set weights i z) starts chosen starts' heads' weights'
+  lengths_set i x y z =
       record {
         tails_long = length-set tails i x ∙ g.tails_long;
         heads_long = length-set heads i y ∙ g.heads_long;
@@ -59,8 +59,8 @@ module _ (tails heads weights starts chosen starts' heads' weights' : List ℕ) 
         over_weights_long = g.over_weights_long;
       }
 
-  pub lengths-asked : Lengths heads heads weights starts chosen starts' heads' weights'
-  lengths-asked =
+  pub lengths_asked : Lengths heads heads weights starts chosen starts' heads' weights'
+  lengths_asked =
       record {
         tails_long = g.heads_long;
         heads_long = g.heads_long;

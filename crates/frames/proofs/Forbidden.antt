@@ -24,31 +24,31 @@ Carries ℓ (kept ps ∷ os) = Unit {0}
 Carries ℓ (refused r m ∷ os) = m ≡ ℓ
 
 module _ {ℓ : ℕ} where
-  built-line : {starts heads weights : List ℕ} {k : ℕ} {s : Stage} {outs : List Out} → Builds ℓ starts heads weights k s outs → Carries ℓ outs
-  built-line (Builds.no_cover f) = refl
-  built-line (Builds.no_overlay n p f) = refl
-  built-line (Builds.no_room n p m t) = refl
-  built-line (Builds.built n p m t o) = tt
+  built_line : {starts heads weights : List ℕ} {k : ℕ} {s : Stage} {outs : List Out} → Builds ℓ starts heads weights k s outs → Carries ℓ outs
+  built_line (Builds.no_cover f) = refl
+  built_line (Builds.no_overlay n p f) = refl
+  built_line (Builds.no_room n p m t) = refl
+  built_line (Builds.built n p m t o) = tt
 
-  loaded-line : {n m k : ℕ} {tails heads weights : List ℕ} {s : Stage} {outs : List Out} → Loads ℓ n m k tails heads weights s outs → Carries ℓ outs
-  loaded-line (Loads.more h) = tt
-  loaded-line (Loads.complete h b) = built-line b
+  loaded_line : {n m k : ℕ} {tails heads weights : List ℕ} {s : Stage} {outs : List Out} → Loads ℓ n m k tails heads weights s outs → Carries ℓ outs
+  loaded_line (Loads.more h) = tt
+  loaded_line (Loads.complete h b) = built_line b
 
-  done-line : {s s' : Stage} {f : Frame} {outs : List Out} → Does ℓ s f s' outs → Carries ℓ outs
-  done-line (Does.begins l) = loaded-line l
-  done-line (Does.loads l) = loaded-line l
-  done-line (Does.answers (Answers.not_asked f)) = refl
-  done-line (Does.answers (Answers.a_way n l)) = tt
-  done-line (Does.answers (Answers.none n e)) = tt
-  done-line (Does.thins (Thins.no_drive f)) = refl
-  done-line (Does.thins (Thins.thinned n t)) = tt
+  done_line : {s s' : Stage} {f : Frame} {outs : List Out} → Does ℓ s f s' outs → Carries ℓ outs
+  done_line (Does.begins l) = loaded_line l
+  done_line (Does.loads l) = loaded_line l
+  done_line (Does.answers (Answers.not_asked f)) = refl
+  done_line (Does.answers (Answers.a_way n l)) = tt
+  done_line (Does.answers (Answers.none n e)) = tt
+  done_line (Does.thins (Thins.no_drive f)) = refl
+  done_line (Does.thins (Thins.thinned n t)) = tt
 
   pub own_line : {s s' : Stage} {i : Input} {outs : List Out} → Step ℓ s i s' outs → ℓ ≤ most_lines → Carries ℓ outs
   own_line (Step.beyond r h) l = absurd (omega arith)
   own_line (Step.beyond_unended r h) l = absurd (omega arith)
   own_line (Step.cut_off r h) l = refl
   own_line (Step.wrong r h n) l = refl
-  own_line (Step.taken h r d x) l = done-line x
+  own_line (Step.taken h r d x) l = done_line x
   own_line Step.missing_head l = refl
   own_line Step.missing_arc l = refl
   own_line Step.good_end l = tt

@@ -45,40 +45,40 @@ module _ (ℓ n m k count : ℕ) (tails heads weights : List ℕ) (t h w : ℕ) 
   abbrev Before : Stage
   Before = loading n m k (take count tails) (take count heads) (take count weights)
 
-  pub arc-undue : falls ≡ true → Judged ℓ Before (Arc t h w) [] stopped (refused_by R.Line ℓ)
-  arc-undue e = undue (λ g q d. not_next (f.yes e) (subst (Due Before) q d))
+  pub arc_undue : falls ≡ true → Judged ℓ Before (Arc t h w) [] stopped (refused_by R.Line ℓ)
+  arc_undue e = undue (λ g q d. not_next (f.yes e) (subst (Due Before) q d))
 
   module _ (e : falls ≡ false) (in-tails : count < length tails) (in-heads : count < length heads) (in-weights : count < length weights) where
-    arc-loads :
+    arc_loads :
         (x : Stage) (o : List Out) →
         Loads ℓ n m k (take (count + 1) (set tails count t)) (take (count + 1) (set heads count h)) (take (count + 1) (set weights count w)) x o →
         Judged ℓ Before (Arc t h w) [] x o
-    arc-loads x o l =
+    arc_loads x o l =
         let g₁ = grown tails count t in-tails in
         let g₂ = grown heads count h in-heads in
         let g₃ = grown weights count w in-weights in
         due refl (next (f.no e).0 (f.no e).1) (loads (coe 0 1 (i. Loads ℓ n m k (g₁ i) (g₂ i) (g₃ i) x o) l))
 
-    grown-size : length (take (count + 1) (set tails count t)) ≡ count + 1
-    grown-size =
+    grown_size : length (take (count + 1) (set tails count t)) ≡ count + 1
+    grown_size =
         let g = ap length (grown tails count t in-tails) in
         let a = length-append (take count tails) (t ∷ []) in
         let b = length-take-le count tails (omega arith) in omega arith
 
-    pub arc-more :
+    pub arc_more :
         count + 1 < m →
         Judged ℓ Before (Arc t h w) []
         (loading n m k (take (count + 1) (set tails count t)) (take (count + 1) (set heads count h)) (take (count + 1) (set weights count w))) []
-    arc-more z = arc-loads _ _ (more (omega (arith, grown-size)))
+    arc_more z = arc_loads _ _ (more (omega (arith, grown_size)))
 
-    pub arc-complete :
+    pub arc_complete :
         count < m → m ≤ count + 1 → (x : Stage) (o : List Out) →
         Builds ℓ (starts_of n (take m (set tails count t))) (take m (set heads count h)) (take m (set weights count w)) k x o →
         Judged ℓ Before (Arc t h w) [] x o
-    arc-complete y z x o b =
+    arc_complete y z x o b =
         let q : m ≡ count + 1 = omega arith in
-        arc-loads x o
-        (complete (omega (arith, grown-size))
+        arc_loads x o
+        (complete (omega (arith, grown_size))
         (coe 0 1 (i. Builds ℓ (starts_of n (take (q i) (set tails count t))) (take (q i) (set heads count h)) (take (q i) (set weights count w)) k x o) b))
 
 -- the state and the areas after an arc with more to come
@@ -104,7 +104,7 @@ arc_loaded ℓ s A t h w falls out at f e b i₁ i₂ i₃ few is z r =
       printed =
           record {
             outs = [];
-            does = arc-more ℓ s.n.0 s.m.0 s.k.0 s.count.0 A.tails A.heads A.weights t h w falls f e i₁ i₂ i₃ z;
+            does = arc_more ℓ s.n.0 s.m.0 s.k.0 s.count.0 A.tails A.heads A.weights t h w falls f e i₁ i₂ i₃ z;
             wrote = wrote_none out at r;
           };
       good = record { lines = few; nodes = b.0; arcs = b.1; counted = (omega arith, z); over = omega arith };
@@ -151,33 +151,33 @@ drive_driven ℓ n m count s h w c nodes good out at out' at' d =
 
 -- the line that is told, as a frame
 module _ (ℓ : ℕ) (read : Line) (nodes : List ℕ) where
-  pub begins-head :
+  pub begins_head :
       (n : NodeCount) (m : ArcCount) (k : NodeCount) → read ≡ Head n m k → (x : Stage) (o : List Out) → Loads ℓ n.0 m.0 k.0 [] [] [] x o →
       Judged ℓ begun read nodes x o
-  begins-head n m k e x o l = subst (λ (r : Line). Judged ℓ begun r nodes x o) (sym e) (due refl first (begins l))
+  begins_head n m k e x o l = subst (λ (r : Line). Judged ℓ begun r nodes x o) (sym e) (due refl first (begins l))
 
-  pub loads-arc :
+  pub loads_arc :
       (s : Stage) (t h w : ℕ) → read ≡ Arc t h w → (x : Stage) (o : List Out) → Judged ℓ s (Arc t h w) [] x o → Judged ℓ s read nodes x o
-  loads-arc s t h w e x o j = subst (λ (r : Line). Judged ℓ s r nodes x o) (sym e) (arc-any j)
+  loads_arc s t h w e x o j = subst (λ (r : Line). Judged ℓ s r nodes x o) (sym e) (arc_any j)
     where
-      arc-any : {x : Stage} {o : List Out} → Judged ℓ s (Arc t h w) [] x o → Judged ℓ s (Arc t h w) nodes x o
-      arc-any (undue f) = undue f
-      arc-any (due q d e) = due q d e
+      arc_any : {x : Stage} {o : List Out} → Judged ℓ s (Arc t h w) [] x o → Judged ℓ s (Arc t h w) nodes x o
+      arc_any (undue f) = undue f
+      arc_any (due q d e) = due q d e
 
   module _ (M : Map) (good : Bool) (out : List ℕ) (at : ℕ) (out' : List ℕ) (at' : ℕ) where
-    pub asks-question :
+    pub asks_question :
         (a b : ℕ) → read ≡ Question a b → Answered ℓ M a b good out at out' at' → Printed (Judged ℓ (asking M) read nodes) (stage_if good M) out at out' at'
-    asks-question a b e p =
+    asks_question a b e p =
         record {
           outs = p.outs;
           does = subst (λ (r : Line). Judged ℓ (asking M) r nodes (stage_if good M) p.outs) (sym e) (due refl asked (answers p.does));
           wrote = p.wrote;
         }
 
-    pub asks-drive :
+    pub asks_drive :
         (count : ℕ) → read ≡ Drive count → Thinned ℓ M.starts M.heads M.weights M.chosen (take count nodes) good out at out' at' →
         Printed (Judged ℓ (asking M) read nodes) (stage_if good M) out at out' at'
-    asks-drive count e p =
+    asks_drive count e p =
         record {
           outs = p.outs;
           does =
@@ -262,42 +262,42 @@ module _ (bytes : List ℕ) (nodes nodes' : List ℕ) where
   abbrev Reading : Frame → Type 0
   Reading = ReadAs 64 bytes
 
-  drive-front : (count : ℕ) (l : List ℕ) → count ≡ length l → nodes' ≡ l ++ drop (length l) nodes → take count nodes' ≡ l
-  drive-front count l e f = ap (take count) f ∙ take_at l (drop (length l) nodes) count (sym e)
+  drive_front : (count : ℕ) (l : List ℕ) → count ≡ length l → nodes' ≡ l ++ drop (length l) nodes → take count nodes' ≡ l
+  drive_front count l e f = ap (take count) f ∙ take_at l (drop (length l) nodes) count (sym e)
 
-  told-reads : (told : Line) → Tells Reading told nodes nodes' → (f : Frame) → Says told nodes' f → Reading f
-  told-reads (Head n m k) h f e = subst Reading (sym e) h.0
-  told-reads (Arc t o w) h f e = subst Reading (sym e) h.0
-  told-reads (Question a b) h f e = subst Reading (sym e) h.0
-  told-reads (Drive count) h f e = subst Reading (sym (e ∙ ap drive (drive-front count h.0 h.2 h.3))) h.1
-  told-reads Wrong h f e = absurd e
+  told_reads : (told : Line) → Tells Reading told nodes nodes' → (f : Frame) → Says told nodes' f → Reading f
+  told_reads (Head n m k) h f e = subst Reading (sym e) h.0
+  told_reads (Arc t o w) h f e = subst Reading (sym e) h.0
+  told_reads (Question a b) h f e = subst Reading (sym e) h.0
+  told_reads (Drive count) h f e = subst Reading (sym (e ∙ ap drive (drive_front count h.0 h.2 h.3))) h.1
+  told_reads Wrong h f e = absurd e
 
   record Told (told : Line) : Type 0 where
     pub frame : Frame
     pub says : Says told nodes' frame
     pub reads : Reading frame
 
-  told-frame : (told : Line) → Tells Reading told nodes nodes' → (f : Frame) → Reading f → Told told
-  told-frame (Head n m k) h f r = record { frame = head n.0 m.0 k.0; says = refl; reads = h.0 }
-  told-frame (Arc t o w) h f r = record { frame = arc t o w; says = refl; reads = h.0 }
-  told-frame (Question a b) h f r = record { frame = question a b; says = refl; reads = h.0 }
-  told-frame (Drive count) h f r =
-      record { frame = drive h.0; says = ap drive (sym (drive-front count h.0 h.2 h.3)); reads = h.1 }
-  told-frame Wrong h f r = absurd (h.0 f r)
+  told_frame : (told : Line) → Tells Reading told nodes nodes' → (f : Frame) → Reading f → Told told
+  told_frame (Head n m k) h f r = record { frame = head n.0 m.0 k.0; says = refl; reads = h.0 }
+  told_frame (Arc t o w) h f r = record { frame = arc t o w; says = refl; reads = h.0 }
+  told_frame (Question a b) h f r = record { frame = question a b; says = refl; reads = h.0 }
+  told_frame (Drive count) h f r =
+      record { frame = drive h.0; says = ap drive (sym (drive_front count h.0 h.2 h.3)); reads = h.1 }
+  told_frame Wrong h f r = absurd (h.0 f r)
 
-  judged-steps :
+  judged_steps :
       (ℓ : ℕ) (s : Stage) (told : Line) (x : Stage) (o : List Out) → Tells Reading told nodes nodes' → ℓ ≤ 65535 → Runs s →
       Judged ℓ s told nodes' x o → Step ℓ s (line bytes) x o
-  judged-steps ℓ s told x o h b r (undue f) =
+  judged_steps ℓ s told x o h b r (undue f) =
       wrong r b
-      (λ g q d. let t = told-frame told h g q in f t.frame t.says (subst (Due s) (read_one 64 bytes g t.frame q t.reads) d))
-  judged-steps ℓ s told x o h b r (due {f = g} q d e) = taken b (told-reads told h g q) d e
+      (λ g q d. let t = told_frame told h g q in f t.frame t.says (subst (Due s) (read_one 64 bytes g t.frame q t.reads) d))
+  judged_steps ℓ s told x o h b r (due {f = g} q d e) = taken b (told_reads told h g q) d e
 
-  pub judged-step :
+  pub judged_step :
       length nodes ≡ 64 → (ℓ : ℕ) (s : Stage) (told : Line) → Reads bytes told nodes nodes' → ℓ ≤ 65535 → Runs s →
       (x : Stage) (o : List Out) → Judged ℓ s told nodes' x o → Step ℓ s (line bytes) x o
-  judged-step long ℓ s told h b r x o j =
-      judged-steps ℓ s told x o (subst (λ (room : ℕ). Tells (ReadAs room bytes) told nodes nodes') long h.tells) b r j
+  judged_step long ℓ s told h b r x o j =
+      judged_steps ℓ s told x o (subst (λ (room : ℕ). Tells (ReadAs room bytes) told nodes nodes') long h.tells) b r j
 
 -- a line is taken in the stage x
 pub line_taken :
@@ -307,6 +307,6 @@ pub line_taken :
 line_taken s A bytes nodes nodes' x told s' A' out at out' at' e go few reads long l =
     left_as (Judged (s.lines + 1) x told nodes') (s.lines + 1) s' A' out at out' at' (Step (s.lines + 1) (stage s A) (line bytes))
     (λ y o j.
-    judged-step bytes nodes nodes' long (s.lines + 1) (stage s A) told reads few (runs s A go) y o
+    judged_step bytes nodes nodes' long (s.lines + 1) (stage s A) told reads few (runs s A go) y o
     (subst (λ (z : Stage). Judged (s.lines + 1) z told nodes' y o) (sym e) j))
     l

@@ -42,98 +42,98 @@ module _ (M : Map) (a b ℓ : ℕ) where
   abbrev Found : Said → Type 0
   Found = PairFound M.starts M.heads M.weights M.chosen M.over_starts M.over_heads M.over_weights a b
 
-  pair-refused : (said : Said) (r : Refusal) → said ≡ refusal r → Found said → Answers ℓ M a b stopped (refused_by r ℓ)
-  pair-refused said r e (PairFound.refused f) =
+  pair_refused : (said : Said) (r : Refusal) → said ≡ refusal r → Found said → Answers ℓ M a b stopped (refused_by r ℓ)
+  pair_refused said r e (PairFound.refused f) =
       subst (λ (n : ℕ). Answers ℓ M a b stopped (refused n ℓ ∷ [])) (ap (λ (s : Said). s.number) e) (not_asked f)
-  pair-refused said r e (PairFound.answered n (D.Answers.way l)) = let z = ap size e in absurd (omega arith)
-  pair-refused said r e (PairFound.answered n (D.Answers.no_way l)) = let z = ap size e in absurd (omega arith)
+  pair_refused said r e (PairFound.answered n (D.Answers.way l)) = let z = ap size e in absurd (omega arith)
+  pair_refused said r e (PairFound.answered n (D.Answers.no_way l)) = let z = ap size e in absurd (omega arith)
 
-  pair-way : (said : Said) (d : ℕ) → said ≡ answer (1 ∷ d ∷ []) → Found said → Answers ℓ M a b (asking M) (way a b d ∷ [])
-  pair-way said d e (PairFound.refused f) = let z = ap size e in absurd (omega arith)
-  pair-way said d e (PairFound.answered n (D.Answers.way l)) =
+  pair_way : (said : Said) (d : ℕ) → said ≡ answer (1 ∷ d ∷ []) → Found said → Answers ℓ M a b (asking M) (way a b d ∷ [])
+  pair_way said d e (PairFound.refused f) = let z = ap size e in absurd (omega arith)
+  pair_way said d e (PairFound.answered n (D.Answers.way l)) =
       subst (λ (x : ℕ). Answers ℓ M a b (asking M) (way a b x ∷ [])) (ap (λ (s : Said). get_or s.values 1 0) e) (a_way n l)
-  pair-way said d e (PairFound.answered n (D.Answers.no_way l)) = let z = ap size e in absurd (omega arith)
+  pair_way said d e (PairFound.answered n (D.Answers.no_way l)) = let z = ap size e in absurd (omega arith)
 
-  pair-none : (said : Said) → said ≡ answer (0 ∷ []) → Found said → Answers ℓ M a b (asking M) (no_way a b ∷ [])
-  pair-none said e (PairFound.refused f) = let z = ap size e in absurd (omega arith)
-  pair-none said e (PairFound.answered n (D.Answers.way l)) = let z = ap size e in absurd (omega arith)
-  pair-none said e (PairFound.answered n (D.Answers.no_way l)) = none n l
+  pair_none : (said : Said) → said ≡ answer (0 ∷ []) → Found said → Answers ℓ M a b (asking M) (no_way a b ∷ [])
+  pair_none said e (PairFound.refused f) = let z = ap size e in absurd (omega arith)
+  pair_none said e (PairFound.answered n (D.Answers.way l)) = let z = ap size e in absurd (omega arith)
+  pair_none said e (PairFound.answered n (D.Answers.no_way l)) = none n l
 
   module _ (found : DistanceAnswer) (p : Found (distance_said found)) (out : List ℕ) (at : ℕ) (out' : List ℕ) (at' : ℕ) where
-    pub question-refused :
+    pub question_refused :
         (r : Refusal) (good : Bool) (over : ℕ) → found ≡ DA.Refused r → (good ≡ false) × (Wrote out at (text_of (refused_by r ℓ)) out' at') × (over ≡ 0) →
         Answered ℓ M a b good out at out' at'
-    question-refused r good over e w =
+    question_refused r good over e w =
         record {
           outs = refused_by r ℓ;
           does =
-              subst (λ (g : Bool). Answers ℓ M a b (stage_if g M) (refused_by r ℓ)) (sym w.0) (pair-refused (distance_said found) r (ap distance_said e) p);
+              subst (λ (g : Bool). Answers ℓ M a b (stage_if g M) (refused_by r ℓ)) (sym w.0) (pair_refused (distance_said found) r (ap distance_said e) p);
           wrote = w.1;
         }
 
-    pub question-way : (d : ℕ) → found ≡ DA.Way d → Wrote out at (out_text (way a b d)) out' at' → Answered ℓ M a b true out at out' at'
-    question-way d e w =
-        record { outs = way a b d ∷ []; does = pair-way (distance_said found) d (ap distance_said e) p; wrote = line_one out at (way a b d) out' at' w }
+    pub question_way : (d : ℕ) → found ≡ DA.Way d → Wrote out at (out_text (way a b d)) out' at' → Answered ℓ M a b true out at out' at'
+    question_way d e w =
+        record { outs = way a b d ∷ []; does = pair_way (distance_said found) d (ap distance_said e) p; wrote = line_one out at (way a b d) out' at' w }
 
-    pub question-none : found ≡ DA.NoWay → Wrote out at (out_text (no_way a b)) out' at' → Answered ℓ M a b true out at out' at'
-    question-none e w =
-        record { outs = no_way a b ∷ []; does = pair-none (distance_said found) (ap distance_said e) p; wrote = line_one out at (no_way a b) out' at' w }
+    pub question_none : found ≡ DA.NoWay → Wrote out at (out_text (no_way a b)) out' at' → Answered ℓ M a b true out at out' at'
+    question_none e w =
+        record { outs = no_way a b ∷ []; does = pair_none (distance_said found) (ap distance_said e) p; wrote = line_one out at (no_way a b) out' at' w }
 
 -- drives
 module _ (starts heads weights chosen nodes positions : List ℕ) (alike : length positions ≡ length nodes) (ℓ : ℕ) where
   abbrev Faults : List Fault
   Faults = drive_faults starts heads weights chosen nodes
 
-  long-fault : (s : Refusal) → length_fault (length positions) (length nodes) s → ⊥
-  long-fault s f = f.holds alike
+  long_fault : (s : Refusal) → length_fault (length positions) (length nodes) s → ⊥
+  long_fault s f = f.holds alike
 
-  thin-refused :
+  thin_refused :
       (said : Said) (after : List ℕ) (r : Refusal) → said ≡ refusal r → T.Outcome starts heads weights chosen nodes positions said after →
       (M : Map) → M.starts ≡ starts → M.heads ≡ heads → M.weights ≡ weights → M.chosen ≡ chosen → Thins ℓ M nodes stopped (refused_by r ℓ)
-  thin-refused said after r e (T.refused {r = r'} f) M e₁ e₂ e₃ e₄ =
+  thin_refused said after r e (T.refused {r = r'} f) M e₁ e₂ e₃ e₄ =
       subst (λ (n : ℕ). Thins ℓ M nodes stopped (refused n ℓ ∷ [])) (ap (λ (s : Said). s.number) e)
       (no_drive
       (subst (λ (Fs : List Fault). First Fs r') (λ i. drive_faults (sym e₁ i) (sym e₂ i) (sym e₃ i) (sym e₄ i) nodes)
-      (first_of Faults (length_fault (length positions) (length nodes)) r' long-fault f)))
-  thin-refused said after r e (T.thinned n t) M e₁ e₂ e₃ e₄ = let z = ap size e in absurd (omega arith)
+      (first_of Faults (length_fault (length positions) (length nodes)) r' long_fault f)))
+  thin_refused said after r e (T.thinned n t) M e₁ e₂ e₃ e₄ = let z = ap size e in absurd (omega arith)
 
   -- the kept positions stand at the front
   record ThinKept (c : ℕ) (after : List ℕ) : Type 0 where
     pub list : List ℕ
-    pub none-of-faults : None Faults
+    pub none_of_faults : None Faults
     pub thin : ThinnedDrive chosen nodes list
     pub count : length list ≡ c
     pub whole : after ≡ list ++ drop (length list) positions
 
-  thin-kept :
+  thin_kept :
       (said : Said) (after : List ℕ) (c : ℕ) → said ≡ answer (c ∷ []) → T.Outcome starts heads weights chosen nodes positions said after → ThinKept c after
-  thin-kept said after c e (T.refused f) = let z = ap size e in absurd (omega arith)
-  thin-kept said after c e (T.thinned {kept = list} n t) =
+  thin_kept said after c e (T.refused f) = let z = ap size e in absurd (omega arith)
+  thin_kept said after c e (T.thinned {kept = list} n t) =
       record {
         list = list;
-        none-of-faults = none_of Faults (length_fault (length positions) (length nodes)) n;
+        none_of_faults = none_of Faults (length_fault (length positions) (length nodes)) n;
         thin = t;
         count = ap (λ (s : Said). get_or s.values 0 0) e;
         whole = refl;
       }
 
   module _ (found : ThinAnswer) (after : List ℕ) (o : T.Outcome starts heads weights chosen nodes positions (T.said_of found) after) where
-    pub drive-refused :
+    pub drive_refused :
         (r : Refusal) (good : Bool) (over : ℕ) (out : List ℕ) (at : ℕ) (out' : List ℕ) (at' : ℕ) → found ≡ TA.Refused r →
         (good ≡ false) × (Wrote out at (text_of (refused_by r ℓ)) out' at') × (over ≡ 0) → Thinned ℓ starts heads weights chosen nodes good out at out' at'
-    drive-refused r good over out at out' at' e w =
+    drive_refused r good over out at out' at' e w =
         record {
           outs = refused_by r ℓ;
           does =
               λ M e₁ e₂ e₃ e₄.
               subst (λ (g : Bool). Thins ℓ M nodes (stage_if g M) (refused_by r ℓ)) (sym w.0)
-              (thin-refused (T.said_of found) after r (ap T.said_of e) o M e₁ e₂ e₃ e₄);
+              (thin_refused (T.said_of found) after r (ap T.said_of e) o M e₁ e₂ e₃ e₄);
           wrote = w.1;
         }
 
     module _ (c : ℕ) (e : found ≡ TA.Thinned (record { 0 = c })) (long : length after ≡ length positions) where
       kept_of : ThinKept c after
-      kept_of = thin-kept (T.said_of found) after c (ap T.said_of e) o
+      kept_of = thin_kept (T.said_of found) after c (ap T.said_of e) o
 
       pub kept_fits : (c ≤ length after) × (c ≤ length nodes)
       kept_fits =
@@ -156,16 +156,16 @@ module _ (starts heads weights chosen nodes positions : List ℕ) (alike : lengt
           let g = kept_fits.1 in
           omega arith
 
-      pub drive-kept :
+      pub drive_kept :
           (out : List ℕ) (at : ℕ) (out' : List ℕ) (at' : ℕ) → Wrote out at (out_text (kept (mid_of 0 (c - 0) after))) out' at' →
           Thinned ℓ starts heads weights chosen nodes true out at out' at'
-      drive-kept out at out' at' w =
+      drive_kept out at out' at' w =
           record {
             outs = kept kept_of.list ∷ [];
             does =
                 λ M e₁ e₂ e₃ e₄.
                 thinned
-                (subst (λ (Fs : List Fault). None Fs) (λ i. drive_faults (sym e₁ i) (sym e₂ i) (sym e₃ i) (sym e₄ i) nodes) kept_of.none-of-faults)
+                (subst (λ (Fs : List Fault). None Fs) (λ i. drive_faults (sym e₁ i) (sym e₂ i) (sym e₃ i) (sym e₄ i) nodes) kept_of.none_of_faults)
                 (subst (λ (x : List ℕ). ThinnedDrive x nodes kept_of.list) (sym e₄) kept_of.thin);
             wrote =
                 line_one out at (kept kept_of.list) out' at' (subst (λ (x : List ℕ). Wrote out at (out_text (kept x)) out' at') front_kept w);

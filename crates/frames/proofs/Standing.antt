@@ -69,8 +69,8 @@ settled_off good ℓ n m over s e g h =
     }
 
 module _ (P : Stage → List Out → Type 0) (ℓ : ℕ) (s : State) (A : Areas) (out : List ℕ) (at : ℕ) (out' : List ℕ) (at' : ℕ) where
-  pub halted-left : (ℓ' : ℕ) → P stopped (refused_by R.Line ℓ') → Halted ℓ' s out at out' at' → Left P ℓ s A out at out' at'
-  halted-left ℓ' p h =
+  pub halted_left : (ℓ' : ℕ) → P stopped (refused_by R.Line ℓ') → Halted ℓ' s out at out' at' → Left P ℓ s A out at out' at'
+  halted_left ℓ' p h =
       record {
         printed =
             record {
@@ -82,11 +82,11 @@ module _ (P : Stage → List Out → Type 0) (ℓ : ℕ) (s : State) (A : Areas)
         lines = λ e. absurd (still s h.halts e);
       }
 
-  pub settled-left :
+  pub settled_left :
       (good : Bool) (n m over : ℕ) → Settled good ℓ n m over s →
       Printed P (stage_if good (map_of n m over A.starts A.heads A.weights A.chosen A.over_starts A.over_heads A.over_weights)) out at out' at' →
       Left P ℓ s A out at out' at'
-  settled-left good n m over h p =
+  settled_left good n m over h p =
       record { printed = subst (λ (x : Stage). Printed P x out at out' at') (sym (h.is A)) p; good = h.fine; lines = h.lines }
 
   -- what P allows, Q allows
@@ -173,11 +173,11 @@ module _ (n t : ℕ) (tails : List ℕ) (count : ℕ) (h : count ≤ length tail
   last_of z =
       ap (λ (j : ℕ). get_or (take count tails) (j - 1) 0) (length-take-le count tails h) ∙ get_or-take count tails (count - 1) 0 (omega arith)
 
-  pub falls-high : n ≤ t → Falls true n t (take count tails)
-  falls-high a = record { yes = λ e b d. omega arith; no = λ e. absurd (true≢false e) }
+  pub falls_high : n ≤ t → Falls true n t (take count tails)
+  falls_high a = record { yes = λ e b d. omega arith; no = λ e. absurd (true≢false e) }
 
-  pub falls-first : t < n → count ≡ 0 → Falls false n t (take count tails)
-  falls-first a z =
+  pub falls_first : t < n → count ≡ 0 → Falls false n t (take count tails)
+  falls_first a z =
       record {
         yes = λ e b d. true≢false (sym e);
         no = λ e. (a, subst (λ (j : ℕ). get_or (take j tails) (length (take j tails) - 1) 0 ≤ t) (sym z) (omega arith));
@@ -186,65 +186,65 @@ module _ (n t : ℕ) (tails : List ℕ) (count : ℕ) (h : count ≤ length tail
   pub falls_below : 0 < count → t < get_or tails (count - 1) 0 → Falls true n t (take count tails)
   falls_below z a = record { yes = λ e b d. omega (arith, last_of z); no = λ e. absurd (true≢false e) }
 
-  pub falls-not : 0 < count → t < n → get_or tails (count - 1) 0 ≤ t → Falls false n t (take count tails)
-  falls-not z a b = record { yes = λ e c d. true≢false (sym e); no = λ e. (a, omega (arith, last_of z)) }
+  pub falls_not : 0 < count → t < n → get_or tails (count - 1) 0 ≤ t → Falls false n t (take count tails)
+  falls_not z a b = record { yes = λ e c d. true≢false (sym e); no = λ e. (a, omega (arith, last_of z)) }
 
 -- how far the state is, by its phase
 module _ (s : State) (g : Good s) where
-  counted-by : (p : Phase) → s.phase ≡ p → Counted p s.lines s.m.0 s.count.0
-  counted-by p e = subst (λ (q : Phase). Counted q s.lines s.m.0 s.count.0) e g.counted
+  counted_by : (p : Phase) → s.phase ≡ p → Counted p s.lines s.m.0 s.count.0
+  counted_by p e = subst (λ (q : Phase). Counted q s.lines s.m.0 s.count.0) e g.counted
 
-  pub first-line : s.phase ≡ Begun → s.lines + 1 ≡ 1
-  first-line e = let z : s.lines ≡ 0 = counted-by Begun e in omega arith
+  pub first_line : s.phase ≡ Begun → s.lines + 1 ≡ 1
+  first_line e = let z : s.lines ≡ 0 = counted_by Begun e in omega arith
 
-  pub next-arc : s.phase ≡ Loading → (s.lines + 1 ≡ s.count.0 + 2) × (s.count.0 < s.m.0)
-  next-arc e = let z : (s.lines ≡ s.count.0 + 1) × (s.count.0 < s.m.0) = counted-by Loading e in (omega (arith, z.0), z.1)
+  pub next_arc : s.phase ≡ Loading → (s.lines + 1 ≡ s.count.0 + 2) × (s.count.0 < s.m.0)
+  next_arc e = let z : (s.lines ≡ s.count.0 + 1) × (s.count.0 < s.m.0) = counted_by Loading e in (omega (arith, z.0), z.1)
 
-  pub early-first : s.phase ≡ Begun → s.lines + 1 ≤ 65535
-  early-first e = omega (arith, first-line e)
+  pub early_first : s.phase ≡ Begun → s.lines + 1 ≤ 65535
+  early_first e = omega (arith, first_line e)
 
-  pub early-arc : s.phase ≡ Loading → s.lines + 1 ≤ 65535
-  early-arc e = omega (arith, (next-arc e).0, (next-arc e).1, g.arcs)
+  pub early_arc : s.phase ≡ Loading → s.lines + 1 ≤ 65535
+  early_arc e = omega (arith, (next_arc e).0, (next_arc e).1, g.arcs)
 
 -- bytes that no line feed ends, and the end of the input
 module _ (s s' : State) (out : List ℕ) (at : ℕ) (out' : List ℕ) (at' : ℕ) (go : goes s.phase ≡ true) where
-  pub unended-beyond : 65535 < s.lines + 1 → Halted 65535 s' out at out' at' → TookUnended s s' out at out' at'
-  unended-beyond b h =
+  pub unended_beyond : 65535 < s.lines + 1 → Halted 65535 s' out at out' at' → TookUnended s s' out at out' at'
+  unended_beyond b h =
       record {
         step =
             λ A bytes.
-            halted-left (Step (s.lines + 1) (stage s A) (unended bytes)) (s.lines + 1) s' A out at out' at' 65535 (beyond_unended (runs s A go) b) h;
+            halted_left (Step (s.lines + 1) (stage s A) (unended bytes)) (s.lines + 1) s' A out at out' at' 65535 (beyond_unended (runs s A go) b) h;
       }
 
-  pub unended-cut : s.lines + 1 ≤ 65535 → Halted (s.lines + 1) s' out at out' at' → TookUnended s s' out at out' at'
-  unended-cut b h =
+  pub unended_cut : s.lines + 1 ≤ 65535 → Halted (s.lines + 1) s' out at out' at' → TookUnended s s' out at out' at'
+  unended_cut b h =
       record {
         step =
             λ A bytes.
-            halted-left (Step (s.lines + 1) (stage s A) (unended bytes)) (s.lines + 1) s' A out at out' at' (s.lines + 1) (cut_off (runs s A go) b) h;
+            halted_left (Step (s.lines + 1) (stage s A) (unended bytes)) (s.lines + 1) s' A out at out' at' (s.lines + 1) (cut_off (runs s A go) b) h;
       }
 
-  pub line-beyond : (A A' : Areas) (bytes : List ℕ) → 65535 < s.lines + 1 → Halted 65535 s' out at out' at' → TookLine s A bytes s' A' out at out' at'
-  line-beyond A A' bytes b h =
-      halted-left (Step (s.lines + 1) (stage s A) (line bytes)) (s.lines + 1) s' A' out at out' at' 65535 (beyond (runs s A go) b) h
+  pub line_beyond : (A A' : Areas) (bytes : List ℕ) → 65535 < s.lines + 1 → Halted 65535 s' out at out' at' → TookLine s A bytes s' A' out at out' at'
+  line_beyond A A' bytes b h =
+      halted_left (Step (s.lines + 1) (stage s A) (line bytes)) (s.lines + 1) s' A' out at out' at' 65535 (beyond (runs s A go) b) h
 
 module _ (s s' : State) (out : List ℕ) (at : ℕ) (out' : List ℕ) (at' : ℕ) where
-  end-missing :
+  end_missing :
       (p : Phase) → s.phase ≡ p → ((A : Areas) → Step (s.lines + 1) (stage_by p s A) end stopped (refused_by R.Line (s.lines + 1))) →
       Halted (s.lines + 1) s' out at out' at' → TookEnd s s' out at out' at'
-  end-missing p e f h =
+  end_missing p e f h =
       record {
         step =
             λ A.
-            halted-left (Step (s.lines + 1) (stage s A) end) (s.lines + 1) s' A out at out' at' (s.lines + 1)
+            halted_left (Step (s.lines + 1) (stage s A) end) (s.lines + 1) s' A out at out' at' (s.lines + 1)
             (subst (λ (q : Phase). Step (s.lines + 1) (stage_by q s A) end stopped (refused_by R.Line (s.lines + 1))) (sym e) (f A)) h;
       }
 
-  pub end-first : s.phase ≡ Begun → Halted (s.lines + 1) s' out at out' at' → TookEnd s s' out at out' at'
-  end-first e h = end-missing Begun e (λ A. missing_head) h
+  pub end_first : s.phase ≡ Begun → Halted (s.lines + 1) s' out at out' at' → TookEnd s s' out at out' at'
+  end_first e h = end_missing Begun e (λ A. missing_head) h
 
-  pub end-arc : s.phase ≡ Loading → Halted (s.lines + 1) s' out at out' at' → TookEnd s s' out at out' at'
-  end-arc e h = end-missing Loading e (λ A. missing_arc) h
+  pub end_arc : s.phase ≡ Loading → Halted (s.lines + 1) s' out at out' at' → TookEnd s s' out at out' at'
+  end_arc e h = end_missing Loading e (λ A. missing_arc) h
 
 pub end_good :
     (s s' : State) (out : List ℕ) (at : ℕ) → s.phase ≡ Asking → Good s' → s'.phase ≡ Stopped → at ≤ length out → TookEnd s s' out at out at

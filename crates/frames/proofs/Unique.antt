@@ -5,7 +5,7 @@ use mathlib.Core.List.{List, [], ◌∷◌, ◌++◌}
 use Prim.Native.Nat.{ℕ, ◌+◌}
 use native.Mathlib.Omega.{arith}
 use lib.ListN.{length}
-use Rattle.paths.proofs.Least.{least-one}
+use Rattle.paths.proofs.Least.{least_one}
 use Rattle.road.specs.declared.Refusal.{Refusal}
 use Rattle.road.specs.declared.Refusal.TheVariants.{Room}
 use Rattle.road.specs.Chains.{cover_faults, road_and_set_faults, drive_faults}
@@ -15,13 +15,13 @@ use Rattle.road.specs.Refusals.{First, None, Fault}
 use Rattle.road.specs.workings.Verdicts.{Singles}
 use Rattle.road.specs.Roads.{nodes_of, road}
 use Rattle.road.proofs.Refusals.{first_one, first_not_none, of_single}
-use Rattle.road.proofs.Verdicts.{cover-singles, road-and-set-singles, drive-singles, singles_both}
+use Rattle.road.proofs.Verdicts.{cover_singles, road_and_set_singles, drive_singles, singles_both}
 use Rattle.rule.specs.Rule.{PathOf, Pruned}
-use Rattle.rule.proofs.Rules.{prunes-one}
+use Rattle.rule.proofs.Rules.{prunes_one}
 use Rattle.overlay.specs.Calls.{TooMany}
 use Rattle.overlay.specs.Lent.{overlay_fault}
 use Rattle.overlay.specs.Overlays.{OverlayOf}
-use Rattle.road.proofs.Left.{road-and-set-left}
+use Rattle.road.proofs.Left.{road_and_set_left}
 use Rattle.overlay.proofs.Unique as Unique
 use Rattle.distance.specs.Calls.{pair_input}
 use Rattle.drive.proofs.Unique.{thinned_one}
@@ -41,11 +41,11 @@ refusals_one ℓ Fs s r q f g = (refl, ap (λ (x : Refusal). refused_by x ℓ) (
 
 -- the moment of building
 module _ (ℓ : ℕ) (starts heads weights : List ℕ) (k : ℕ) where
-  abbrev coverList : List Fault
-  coverList = cover_faults starts heads weights k (numbers 0 (nodes_of starts))
+  abbrev cover_list : List Fault
+  cover_list = cover_faults starts heads weights k (numbers 0 (nodes_of starts))
 
-  abbrev built-as : List ℕ → List ℕ → List ℕ → List ℕ → Stage
-  built-as cover starts' heads' weights' =
+  abbrev built_as : List ℕ → List ℕ → List ℕ → List ℕ → Stage
+  built_as cover starts' heads' weights' =
       asking
       (record {
         starts = starts;
@@ -67,10 +67,10 @@ module _ (ℓ : ℕ) (starts heads weights : List ℕ) (k : ℕ) where
     full : None (road_and_set_faults starts heads weights cover) → TooMany (road starts heads weights) cover over_room → Lays cover stopped (refused_by Room ℓ)
     laid :
         {starts' heads' weights' : List ℕ} → None (road_and_set_faults starts heads weights cover) → (TooMany (road starts heads weights) cover over_room → ⊥) →
-        OverlayOf (road starts heads weights) cover starts' heads' weights' → Lays cover (built-as cover starts' heads' weights') (printed cover starts' heads' weights')
+        OverlayOf (road starts heads weights) cover starts' heads' weights' → Lays cover (built_as cover starts' heads' weights') (printed cover starts' heads' weights')
 
   lays_one : (cover : List ℕ) {s t : Stage} {os ps : List Out} → Lays cover s os → Lays cover t ps → Same s os t ps
-  lays_one c (bad {r = r} f) (bad {r = q} g) = refusals_one ℓ (road_and_set_faults starts heads weights c) (road-and-set-singles starts heads weights c) r q f g
+  lays_one c (bad {r = r} f) (bad {r = q} g) = refusals_one ℓ (road_and_set_faults starts heads weights c) (road_and_set_singles starts heads weights c) r q f g
   lays_one c (bad {r = r} f) (full n m) = absurd (first_not_none (road_and_set_faults starts heads weights c) r f n)
   lays_one c (bad {r = r} f) (laid n m o) = absurd (first_not_none (road_and_set_faults starts heads weights c) r f n)
   lays_one c (full n m) (bad {r = r} f) = absurd (first_not_none (road_and_set_faults starts heads weights c) r f n)
@@ -79,21 +79,21 @@ module _ (ℓ : ℕ) (starts heads weights : List ℕ) (k : ℕ) where
   lays_one c (laid n m o) (bad {r = r} f) = absurd (first_not_none (road_and_set_faults starts heads weights c) r f n)
   lays_one c (laid n m o) (full i j) = absurd (m j)
   lays_one c (laid {starts' = s} {heads' = h} {weights' = w} n m o) (laid {starts' = s'} {heads' = h'} {weights' = w'} i j p) =
-      let e = (road-and-set-left starts heads weights c n).set_right.bytes in
-      let x = Unique.starts-one (road starts heads weights) c e s h w s' h' w' o p in
-      let y = Unique.heads-one (road starts heads weights) c e s h w s' h' w' o p in
-      let z = Unique.weights-one (road starts heads weights) c e s h w s' h' w' o p in
-      ((λ a. built-as c (x a) (y a) (z a)), λ a. printed c (x a) (y a) (z a))
+      let e = (road_and_set_left starts heads weights c n).set_right.bytes in
+      let x = Unique.starts_one (road starts heads weights) c e s h w s' h' w' o p in
+      let y = Unique.heads_one (road starts heads weights) c e s h w s' h' w' o p in
+      let z = Unique.weights_one (road starts heads weights) c e s h w s' h' w' o p in
+      ((λ a. built_as c (x a) (y a) (z a)), λ a. printed c (x a) (y a) (z a))
 
   record Covered (s : Stage) (os : List Out) : Type 0 where
     pub cover : List ℕ
-    pub sound : None coverList
+    pub sound : None cover_list
     pub pruned : Pruned (PathOf (road starts heads weights) k) (nodes_of starts) (numbers 0 (nodes_of starts)) cover
     pub lays : Lays cover s os
 
   record Uncovered (s : Stage) (os : List Out) : Type 0 where
     pub refusal : Refusal
-    pub first : First coverList refusal
+    pub first : First cover_list refusal
     pub stage : s ≡ stopped
     pub outs : os ≡ refused_by refusal ℓ
 
@@ -103,17 +103,17 @@ module _ (ℓ : ℕ) (starts heads weights : List ℕ) (k : ℕ) where
   cases (no_room {cover = c} n p m t) = inr (record { cover = c; sound = n; pruned = p; lays = full m t })
   cases (built {cover = c} n p m t o) = inr (record { cover = c; sound = n; pruned = p; lays = laid m t o })
 
-  cases-one : {s t : Stage} {os ps : List Out} → Uncovered s os ⊎ Covered s os → Uncovered t ps ⊎ Covered t ps → Same s os t ps
-  cases-one (inl x) (inl y) =
-      let e = first_one coverList x.refusal y.refusal (cover-singles starts heads weights k (numbers 0 (nodes_of starts))) x.first y.first in
+  cases_one : {s t : Stage} {os ps : List Out} → Uncovered s os ⊎ Covered s os → Uncovered t ps ⊎ Covered t ps → Same s os t ps
+  cases_one (inl x) (inl y) =
+      let e = first_one cover_list x.refusal y.refusal (cover_singles starts heads weights k (numbers 0 (nodes_of starts))) x.first y.first in
       (x.stage ∙ sym y.stage, x.outs ∙ ap (λ (r : Refusal). refused_by r ℓ) e ∙ sym y.outs)
-  cases-one (inl x) (inr y) = absurd (first_not_none coverList x.refusal x.first y.sound)
-  cases-one (inr x) (inl y) = absurd (first_not_none coverList y.refusal y.first x.sound)
-  cases-one {s = s} {os = os} (inr x) (inr y) =
-      lays_one y.cover (subst (λ (c : List ℕ). Lays c s os) (prunes-one x.pruned y.pruned) x.lays) y.lays
+  cases_one (inl x) (inr y) = absurd (first_not_none cover_list x.refusal x.first y.sound)
+  cases_one (inr x) (inl y) = absurd (first_not_none cover_list y.refusal y.first x.sound)
+  cases_one {s = s} {os = os} (inr x) (inr y) =
+      lays_one y.cover (subst (λ (c : List ℕ). Lays c s os) (prunes_one x.pruned y.pruned) x.lays) y.lays
 
-  pub builds-one : {s t : Stage} {os ps : List Out} → Builds ℓ starts heads weights k s os → Builds ℓ starts heads weights k t ps → Same s os t ps
-  builds-one a b = cases-one (cases a) (cases b)
+  pub builds_one : {s t : Stage} {os ps : List Out} → Builds ℓ starts heads weights k s os → Builds ℓ starts heads weights k t ps → Same s os t ps
+  builds_one a b = cases_one (cases a) (cases b)
 
 loads_one :
     {ℓ n m k : ℕ} {tails heads weights : List ℕ} {s t : Stage} {os ps : List Out} → Loads ℓ n m k tails heads weights s os →
@@ -122,25 +122,25 @@ loads_one (more h) (more g) = (refl, refl)
 loads_one (more h) (complete g b) = absurd (omega arith)
 loads_one (complete g b) (more h) = absurd (omega arith)
 loads_one {ℓ = ℓ} {n = n} {k = k} {tails = tails} {heads = heads} {weights = weights} (complete h a) (complete g b) =
-    builds-one ℓ (starts_of n tails) heads weights k a b
+    builds_one ℓ (starts_of n tails) heads weights k a b
 
 -- a question
 module _ (ℓ : ℕ) (M : Map) (a b : ℕ) where
   abbrev asked : List Fault
   asked = pair_input M.starts M.heads M.weights M.chosen M.over_starts M.over_heads M.over_weights a b
 
-  asked-singles : Singles asked
-  asked-singles =
+  asked_singles : Singles asked
+  asked_singles =
       singles_both (road_and_set_faults M.starts M.heads M.weights M.chosen)
       (overlay_fault M.chosen M.over_starts M.over_heads M.over_weights ∷ node_fault (nodes_of M.starts) a b ∷ [])
-      (road-and-set-singles M.starts M.heads M.weights M.chosen) (of_single, (of_single, tt))
+      (road_and_set_singles M.starts M.heads M.weights M.chosen) (of_single, (of_single, tt))
 
   pub answers_one : {s t : Stage} {os ps : List Out} → Answers ℓ M a b s os → Answers ℓ M a b t ps → Same s os t ps
-  answers_one (not_asked {r = r} f) (not_asked {r = q} g) = refusals_one ℓ asked asked-singles r q f g
+  answers_one (not_asked {r = r} f) (not_asked {r = q} g) = refusals_one ℓ asked asked_singles r q f g
   answers_one (not_asked {r = r} f) (a_way n d) = absurd (first_not_none asked r f n)
   answers_one (not_asked {r = r} f) (none n e) = absurd (first_not_none asked r f n)
   answers_one (a_way n d) (not_asked {r = r} f) = absurd (first_not_none asked r f n)
-  answers_one (a_way n d) (a_way m e) = (refl, ap (λ (x : ℕ). way a b x ∷ []) (least-one d e))
+  answers_one (a_way n d) (a_way m e) = (refl, ap (λ (x : ℕ). way a b x ∷ []) (least_one d e))
   answers_one (a_way {d = x} n d) (none m e) = absurd (e.none x d.is)
   answers_one (none n e) (not_asked {r = r} f) = absurd (first_not_none asked r f n)
   answers_one (none n e) (a_way {d = x} m d) = absurd (e.none x d.is)
@@ -151,19 +151,19 @@ module _ (ℓ : ℕ) (M : Map) (nodes : List ℕ) where
   abbrev driven : List Fault
   driven = drive_faults M.starts M.heads M.weights M.chosen nodes
 
-  pub thins-one : {s t : Stage} {os ps : List Out} → Thins ℓ M nodes s os → Thins ℓ M nodes t ps → Same s os t ps
-  thins-one (no_drive {r = r} f) (no_drive {r = q} g) =
-      refusals_one ℓ driven (drive-singles M.starts M.heads M.weights M.chosen nodes) r q f g
-  thins-one (no_drive {r = r} f) (thinned n p) = absurd (first_not_none driven r f n)
-  thins-one (thinned n p) (no_drive {r = r} f) = absurd (first_not_none driven r f n)
-  thins-one (thinned {positions = l} n p) (thinned {positions = m} o q) =
+  pub thins_one : {s t : Stage} {os ps : List Out} → Thins ℓ M nodes s os → Thins ℓ M nodes t ps → Same s os t ps
+  thins_one (no_drive {r = r} f) (no_drive {r = q} g) =
+      refusals_one ℓ driven (drive_singles M.starts M.heads M.weights M.chosen nodes) r q f g
+  thins_one (no_drive {r = r} f) (thinned n p) = absurd (first_not_none driven r f n)
+  thins_one (thinned n p) (no_drive {r = r} f) = absurd (first_not_none driven r f n)
+  thins_one (thinned {positions = l} n p) (thinned {positions = m} o q) =
       (refl, ap (λ (x : List ℕ). kept x ∷ []) (thinned_one M.chosen nodes l m p q))
 
 does_one : {ℓ : ℕ} {s : Stage} {f : Frame} {t u : Stage} {os ps : List Out} → Does ℓ s f t os → Does ℓ s f u ps → Same t os u ps
 does_one (begins a) (begins b) = loads_one a b
 does_one (loads a) (loads b) = loads_one a b
 does_one {ℓ = ℓ} (answers {M = M} {a = x} {b = y} a) (answers b) = answers_one ℓ M x y a b
-does_one {ℓ = ℓ} (thins {M = M} {nodes = nodes} a) (thins b) = thins-one ℓ M nodes a b
+does_one {ℓ = ℓ} (thins {M = M} {nodes = nodes} a) (thins b) = thins_one ℓ M nodes a b
 
 -- two steps from one state, at one line's number, on the same input are equal
 pub step_one : {ℓ : ℕ} {s : Stage} {i : Input} {t u : Stage} {os ps : List Out} → Step ℓ s i t os → Step ℓ s i u ps → Same t os u ps

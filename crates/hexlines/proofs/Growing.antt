@@ -86,15 +86,15 @@ pub record Writing (l : List ℕ) (i : ℕ) (bs m : List ℕ) (j p : ℕ) : Type
   pub wrote : Wrote l i (hex_text (take p bs)) m j
 
 module _ (l : List ℕ) (i : ℕ) (bs : List ℕ) (h : i + 2 * length bs ≤ length l) where
-  pub writing-none : Writing l i bs l i 0
-  writing-none = record { within = omega arith; place = omega arith; wrote = wrote_none l i (omega arith) }
+  pub writing_none : Writing l i bs l i 0
+  writing_none = record { within = omega arith; place = omega arith; wrote = wrote_none l i (omega arith) }
 
   module _ (m : List ℕ) (j p : ℕ) (w : Writing l i bs m j p) where
-    pub writing-long : length m ≡ length l
-    writing-long = wrote_long l i (hex_text (take p bs)) m j w.wrote
+    pub writing_long : length m ≡ length l
+    writing_long = wrote_long l i (hex_text (take p bs)) m j w.wrote
 
-    pub writing-room : p < length bs → j + 1 < length m
-    writing-room k = omega (arith, w.place, writing-long)
+    pub writing_room : p < length bs → j + 1 < length m
+    writing_room k = omega (arith, w.place, writing_long)
 
     pub writing_more : (m' : List ℕ) (j' : ℕ) → p < length bs → j' ≡ j + 2 → m' ≡ set (set m j (digit (get_or bs p 0 / 16))) (j + 1) (digit (get_or bs p 0 % 16)) → Writing l i bs m' j' (p + 1)
     writing_more m' j' k e f =
@@ -104,11 +104,11 @@ module _ (l : List ℕ) (i : ℕ) (bs : List ℕ) (h : i + 2 * length bs ≤ len
           place = omega (arith, w.place);
           wrote =
               subst (λ (x : ℕ). Wrote l i (hex_text (take x bs)) m' j') next
-              (wrote_more l i bs p m j m' j' k w.wrote (wrote_byte m j (get_or bs p 0) m' j' (writing-room k) e f));
+              (wrote_more l i bs p m j m' j' k w.wrote (wrote_byte m j (get_or bs p 0) m' j' (writing_room k) e f));
         }
 
-    pub writing-end : length bs ≤ p → Wrote l i (hex_text bs) m j
-    writing-end k = wrote_all l i bs m j p (omega (arith, w.within)) w.wrote
+    pub writing_end : length bs ≤ p → Wrote l i (hex_text bs) m j
+    writing_end k = wrote_all l i bs m j p (omega (arith, w.within)) w.wrote
 
 pub line_room :
     (l : List ℕ) (i : ℕ) (bs m : List ℕ) (j : ℕ) → i + 2 * length bs < length l → Wrote l i (hex_text bs) m j → (j < length l) × (j < length m)
@@ -130,8 +130,8 @@ module _ (l : List ℕ) (i : ℕ) (ns : List ℕ) (h : i + 2 * length ns ≤ len
   numbers_fit = omega (arith, ones_length ns)
 
   module _ (m : List ℕ) (j p : ℕ) (w : Writing l i (ones ns) m j p) where
-    pub numbers-room : p < length ns → j + 1 < length m
-    numbers-room k = writing-room l i (ones ns) numbers_fit m j p w (omega (arith, ones_length ns))
+    pub numbers_room : p < length ns → j + 1 < length m
+    numbers_room k = writing_room l i (ones ns) numbers_fit m j p w (omega (arith, ones_length ns))
 
     pub numbers_more :
         (m' : List ℕ) (j' : ℕ) → p < length ns → j' ≡ j + 2 → m' ≡ set (set m j (digit (get_or ns p 0 % 256 / 16))) (j + 1) (digit (get_or ns p 0 % 256 % 16)) →
@@ -140,8 +140,8 @@ module _ (l : List ℕ) (i : ℕ) (ns : List ℕ) (h : i + 2 * length ns ≤ len
         writing_more l i (ones ns) numbers_fit m j p w m' j' (omega (arith, ones_length ns)) e
         (subst (λ (b : ℕ). m' ≡ set (set m j (digit (b / 16))) (j + 1) (digit (b % 16))) (sym (ones_at ns p)) f)
 
-    pub numbers-end : length ns ≤ p → Wrote l i (hex_text (ones ns)) m j
-    numbers-end k = writing-end l i (ones ns) numbers_fit m j p w (omega (arith, ones_length ns))
+    pub numbers_end : length ns ≤ p → Wrote l i (hex_text (ones ns)) m j
+    numbers_end k = writing_end l i (ones ns) numbers_fit m j p w (omega (arith, ones_length ns))
 
 -- two bytes, numbers, and the line feed
 pub kept_fits : (l : List ℕ) (i : ℕ) (bs m : List ℕ) (j : ℕ) (ns : List ℕ) → length bs ≡ 2 → i + 2 * length ns + 5 ≤ length l → Wrote l i (hex_text bs) m j → j + 2 * length ns + 1 ≤ length m

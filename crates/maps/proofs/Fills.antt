@@ -30,8 +30,8 @@ module _ (F : ℕ → List ℕ) (l : List ℕ) where
             ap F next;
       }
 
-  pub filled-all : (i : ℕ) (m : List ℕ) → length l ≤ i → Filled F l i m → m ≡ F (length l)
-  filled-all i m h f =
+  pub filled_all : (i : ℕ) (m : List ℕ) → length l ≤ i → Filled F l i m → m ≡ F (length l)
+  filled_all i m h f =
       let e : length m ≡ i = omega (arith, f.long, f.within) in
       let g : i ≡ length l = omega (arith, f.within) in
       sym (take-length m) ∙ ap (λ (j : ℕ). take j m) e ∙ f.front ∙ ap F g

@@ -61,14 +61,14 @@ module _ (l : List ℕ) (i : ℕ) (bytes : List ℕ) (h : i + 7 * length bytes �
   points_none = record { within = omega arith; short = omega arith; wrote = wrote_none l i (omega arith) }
 
   module _ (v : ℕ) (m : List ℕ) (j : ℕ) (p : Points l i bytes v m j) where
-    pub points-long : length m ≡ length l
-    points-long = wrote_long l i (text_of (point_lines 0 (take v bytes))) m j p.wrote
+    pub points_long : length m ≡ length l
+    points_long = wrote_long l i (text_of (point_lines 0 (take v bytes))) m j p.wrote
 
-    pub points-room : v < length bytes → j + 7 ≤ length m
-    points-room k = omega (arith, points-long, p.short)
+    pub points_room : v < length bytes → j + 7 ≤ length m
+    points_room k = omega (arith, points_long, p.short)
 
-    pub points-more : (m' : List ℕ) (j' : ℕ) → v < length bytes → Wrote m j (text_of (point_if (eqb (get_or bytes v 0) 1) v)) m' j' → Points l i bytes (v + 1) m' j'
-    points-more m' j' k w =
+    pub points_more : (m' : List ℕ) (j' : ℕ) → v < length bytes → Wrote m j (text_of (point_if (eqb (get_or bytes v 0) 1) v)) m' j' → Points l i bytes (v + 1) m' j'
+    points_more m' j' k w =
         let next : suc v ≡ v + 1 = omega arith in
         let size : 0 + length (take v bytes) ≡ v = omega (arith, length-take-le v bytes (omega arith)) in
         let lines : point_lines 0 (take (v + 1) bytes) ≡ point_lines 0 (take v bytes) ++ point_if (eqb (get_or bytes v 0) 1) v =
@@ -82,8 +82,8 @@ module _ (l : List ℕ) (i : ℕ) (bytes : List ℕ) (h : i + 7 * length bytes �
               (lines_then l i (point_lines 0 (take v bytes)) m j (point_if (eqb (get_or bytes v 0) 1) v) m' j' p.wrote w);
         }
 
-    pub points-end : length bytes ≤ v → Wrote l i (text_of (point_lines 0 bytes)) m j
-    points-end k =
+    pub points_end : length bytes ≤ v → Wrote l i (text_of (point_lines 0 bytes)) m j
+    points_end k =
         let e : v ≡ length bytes = omega (arith, p.within) in
         subst (λ (x : List ℕ). Wrote l i (text_of (point_lines 0 x)) m j) (ap (λ (y : ℕ). take y bytes) e ∙ take-length bytes) p.wrote
 
@@ -107,8 +107,8 @@ pub record Row (l : List ℕ) (i : ℕ) (heads weights : List ℕ) (u from p : �
   pub wrote : Wrote l i (text_of (row_lines heads weights u from (p - from))) m j
 
 module _ (l : List ℕ) (i : ℕ) (heads weights : List ℕ) (u from to : ℕ) (h : i + 19 * (to - from) ≤ length l) where
-  pub row-none : Row l i heads weights u from from l i
-  row-none =
+  pub row_none : Row l i heads weights u from from l i
+  row_none =
       let e : 0 ≡ from - from = omega arith in
       record {
         begins = omega arith;
@@ -139,8 +139,8 @@ module _ (l : List ℕ) (i : ℕ) (heads weights : List ℕ) (u from to : ℕ) (
               (line_one m j (arc u (get_or heads p 0) (get_or weights p 0)) m' j' w));
         }
 
-    pub row-end : to ≤ p → p ≤ to → Wrote l i (text_of (row_lines heads weights u from (to - from))) m j
-    row-end a b = let e : p ≡ to = omega arith in subst (λ (x : ℕ). Wrote l i (text_of (row_lines heads weights u from (x - from))) m j) e r.wrote
+    pub row_end : to ≤ p → p ≤ to → Wrote l i (text_of (row_lines heads weights u from (to - from))) m j
+    row_end a b = let e : p ≡ to = omega arith in subst (λ (x : ℕ). Wrote l i (text_of (row_lines heads weights u from (x - from))) m j) e r.wrote
 
 -- all rows
 pub record Rows (l : List ℕ) (i : ℕ) (starts heads weights : List ℕ) (n u : ℕ) (m : List ℕ) (j : ℕ) : Type 0 where
@@ -161,13 +161,13 @@ module _ (l : List ℕ) (i : ℕ) (starts heads weights : List ℕ) (n : ℕ) (f
   rows_none = record { within = omega arith; place = omega (arith, f.begins); wrote = wrote_none l i (omega (arith, f.space)) }
 
   module _ (u : ℕ) (m : List ℕ) (j : ℕ) (r : Rows l i starts heads weights n u m j) where
-    pub rows-kept : length m ≡ length l
-    rows-kept = wrote_long l i (text_of (arc_lines starts heads weights u)) m j r.wrote
+    pub rows_kept : length m ≡ length l
+    rows_kept = wrote_long l i (text_of (arc_lines starts heads weights u)) m j r.wrote
 
-    pub rows-ask :
+    pub rows_ask :
         (from to : ℕ) → u < n → from ≡ get_or starts u 0 → to ≡ get_or starts (u + 1) 0 →
         (from ≤ to) × (to ≤ length heads) × (to ≤ length weights) × (j + 19 * (to - from) ≤ length m)
-    rows-ask from to h a b =
+    rows_ask from to h a b =
         let next : suc u ≡ u + 1 = omega arith in
         let same = ap (λ (x : ℕ). get_or starts x 0) next in
         let one = f.rise u h in
@@ -176,7 +176,7 @@ module _ (l : List ℕ) (i : ℕ) (starts heads weights : List ℕ) (n : ℕ) (f
         let k = f.alike in
         let s = f.space in
         let p = r.place in
-        let long = rows-kept in
+        let long = rows_kept in
         (omega arith, omega arith, omega arith, omega arith)
 
     pub rows_more :

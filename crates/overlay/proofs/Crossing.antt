@@ -2,8 +2,8 @@
 --   in?                 a node is in the set, or outside it
 --   first?, last?       a way cut at the first, or the last, node of the set behind its beginning
 --   Over                an overlay over the road: its steps are the definition's arcs, and all of them
---   over-road           under each path of the overlay there is one of the road
---   road-over           under each path of the road between nodes of the set there is one of the overlay
+--   over_road           under each path of the overlay there is one of the road
+--   road_over           under each path of the road between nodes of the set there is one of the overlay
 use mathlib.Core.Path.{◌≡◌, refl, sym, subst}
 use mathlib.Core.Logic.{◌⊎◌, inl, inr, ◌≢◌}
 use mathlib.Core.List.{List, [], ◌∷◌}
@@ -15,10 +15,10 @@ use Rattle.paths.specs.Graphs.{Graph, Proper, Along, stop, step, Reaches, Walks,
 use Rattle.paths.specs.Least.{Under}
 use Rattle.paths.specs.Lists.{Each, Inside}
 use Rattle.paths.proofs.Lists.{each_mem, inside_cons, any_inside}
-use Rattle.paths.proofs.Ways.{Cut, cut-here, cut-further, walks-joined, walk_of, end-node, end-in, path-within}
+use Rattle.paths.proofs.Ways.{Cut, cut_here, cut_further, walks_joined, walk_of, end_node, end_in, path_within}
 use Rattle.road.specs.Faults.{InSet}
 use Rattle.overlay.specs.Overlays.{Outside, OverlayArc, HasArc}
-use Rattle.overlay.proofs.Locals.{reaches-map}
+use Rattle.overlay.proofs.Locals.{reaches_map}
 
 pub in? : (chosen : List ℕ) (v : ℕ) → InSet chosen v ⊎ Outside chosen v
 in? chosen v = by (ℕ_discrete (get_or chosen v 0) 1)
@@ -48,13 +48,13 @@ module _ {G : Graph} (chosen : List ℕ) where
   first? {a} {b} (step {x = x} {w = w} {d = d} {l = l} s r) = by (in? chosen x) (first? r)
     where
       by : InSet chosen x ⊎ Outside chosen x → Each (Outside chosen) l ⊎ FirstSet G chosen x l b d → Each (Outside chosen) (x ∷ l) ⊎ FirstSet G chosen a (x ∷ l) b (w + d)
-      by (inl i) f = inr (record { node = x; parts = cut-further w s (cut-here r refl); inner = tt; member = i; shorter = omega arith })
+      by (inl i) f = inr (record { node = x; parts = cut_further w s (cut_here r refl); inner = tt; member = i; shorter = omega arith })
       by (inr o) (inl e) = inl (o, e)
       by (inr o) (inr f) =
           inr
           (record {
             node = f.node;
-            parts = cut-further w s f.parts;
+            parts = cut_further w s f.parts;
             inner = inside_cons (Outside chosen) x f.parts.front o f.inner;
             member = f.member;
             shorter = omega (arith, f.shorter);
@@ -65,8 +65,8 @@ module _ {G : Graph} (chosen : List ℕ) where
   last? {a} {b} (step {x = x} {w = w} {d = d} {l = l} s r) = by (in? chosen x) (last? r)
     where
       by : InSet chosen x ⊎ Outside chosen x → Each (Outside chosen) l ⊎ LastSet G chosen x l b d → Each (Outside chosen) (x ∷ l) ⊎ LastSet G chosen a (x ∷ l) b (w + d)
-      by i (inr f) = inr (record { node = f.node; parts = cut-further w s f.parts; rest = f.rest; member = f.member })
-      by (inl i) (inl e) = inr (record { node = x; parts = cut-further w s (cut-here r refl); rest = e; member = i })
+      by i (inr f) = inr (record { node = f.node; parts = cut_further w s f.parts; rest = f.rest; member = f.member })
+      by (inl i) (inl e) = inr (record { node = x; parts = cut_further w s (cut_here r refl); rest = e; member = i })
       by (inr o) (inl e) = inl (o, e)
 
 -- an overlay over the road: the same nodes, its steps are overlay arcs, and each pair of the definition has one
@@ -78,18 +78,18 @@ pub record Over (G O : Graph) (chosen : List ℕ) : Type 0 where
 
 module _ (G O : Graph) (chosen : List ℕ) (x : Over G O chosen) where
   -- each way of the overlay is a walk of the road, of the same weight
-  pub road-walk : {a b w : ℕ} {l : List ℕ} → Along O a l b w → Walks G Any a b w
-  road-walk stop = record { after = []; along = stop; inner = tt }
-  road-walk (step {a = a} {x = c} {w = w} s r) =
-      walks-joined (walk_of (reaches-map (λ v o. tt) (x.arc a c w s).least.is)) tt (road-walk r)
+  pub road_walk : {a b w : ℕ} {l : List ℕ} → Along O a l b w → Walks G Any a b w
+  road_walk stop = record { after = []; along = stop; inner = tt }
+  road_walk (step {a = a} {x = c} {w = w} s r) =
+      walks_joined (walk_of (reaches_map (λ v o. tt) (x.arc a c w s).least.is)) tt (road_walk r)
 
-  pub over-road : {a b : ℕ} → a < G.nodes → Under (Reaches O Any a b) (Reaches G Any a b)
-  over-road h = record { under = λ d r. path-within h (road-walk r.path.along) }
+  pub over_road : {a b : ℕ} → a < G.nodes → Under (Reaches O Any a b) (Reaches G Any a b)
+  over_road h = record { under = λ d r. path_within h (road_walk r.path.along) }
 
   -- one arc of the overlay for a way between two nodes of the set with none between them, of no more weight
   short : {a c w : ℕ} {l : List ℕ} → a < G.nodes → InSet chosen a → InSet chosen c → a ≢ c → Along G a l c w → Inside (Outside chosen) l → (d : ℕ) × O.Step a c d × (d ≤ w)
   short {a} {c} {w} {l} h i j n r inner =
-      let p : (d : ℕ) × Reaches G (Outside chosen) a c d × (d ≤ w) = path-within h (record { after = l; along = r; inner = inner }) in
+      let p : (d : ℕ) × Reaches G (Outside chosen) a c d × (d ≤ w) = path_within h (record { after = l; along = r; inner = inner }) in
       let y = x.pair a c (record { tail = i; head = j; apart = n; weight = p.0; some = p.1 }) in
       (y.0, y.1, omega (arith, (x.arc a c y.0 y.1).least.least p.0 p.1, p.2))
 
@@ -98,19 +98,19 @@ module _ (G O : Graph) (chosen : List ℕ) (x : Over G O chosen) where
   at_once h stop = (0, record { after = []; along = stop; inner = tt }, omega arith)
   at_once h (step s r) = absurd (omega arith)
 
-  none-behind : {a b w : ℕ} {l : List ℕ} → Along G a l b w → Each (Outside chosen) l → InSet chosen b → (d : ℕ) × Walks O Any a b d × (d ≤ w)
-  none-behind stop e j = (0, record { after = []; along = stop; inner = tt }, omega arith)
-  none-behind {b = b} (step {x = y} {l = m} s r) e j = absurd (each_mem (Outside chosen) b (y ∷ m) e (end-in (step s r)) j)
+  none_behind : {a b w : ℕ} {l : List ℕ} → Along G a l b w → Each (Outside chosen) l → InSet chosen b → (d : ℕ) × Walks O Any a b d × (d ≤ w)
+  none_behind stop e j = (0, record { after = []; along = stop; inner = tt }, omega arith)
+  none_behind {b = b} (step {x = y} {l = m} s r) e j = absurd (each_mem (Outside chosen) b (y ∷ m) e (end_in (step s r)) j)
 
-  over-walk : (k a b w : ℕ) (l : List ℕ) → length l ≤ k → Along G a l b w → InSet chosen a → InSet chosen b → a < G.nodes → (d : ℕ) × Walks O Any a b d × (d ≤ w)
-  over-walk zero a b w l h r i j n = at_once h r
-  over-walk (suc k) a b w l h r i j n = by (first? chosen r) (λ c v q g u e z. over-walk k c b v q g u e j z)
+  over_walk : (k a b w : ℕ) (l : List ℕ) → length l ≤ k → Along G a l b w → InSet chosen a → InSet chosen b → a < G.nodes → (d : ℕ) × Walks O Any a b d × (d ≤ w)
+  over_walk zero a b w l h r i j n = at_once h r
+  over_walk (suc k) a b w l h r i j n = by (first? chosen r) (λ c v q g u e z. over_walk k c b v q g u e j z)
     where
       by :
           Each (Outside chosen) l ⊎ FirstSet G chosen a l b w →
           ((c v : ℕ) (q : List ℕ) → length q ≤ k → Along G c q b v → InSet chosen c → c < G.nodes → (d : ℕ) × Walks O Any c b d × (d ≤ v)) → (d : ℕ) × Walks O Any a b d × (d ≤ w)
-      by (inl e) again = none-behind r e j
-      by (inr f) again = onward (ℕ_discrete a f.node) (again f.node f.parts.past f.parts.back (omega (arith, f.shorter)) f.parts.from f.member (end-node x.proper n f.parts.to))
+      by (inl e) again = none_behind r e j
+      by (inr f) again = onward (ℕ_discrete a f.node) (again f.node f.parts.past f.parts.back (omega (arith, f.shorter)) f.parts.from f.member (end_node x.proper n f.parts.to))
         where
           onward : Dec (a ≡ f.node) → (d : ℕ) × Walks O Any f.node b d × (d ≤ f.parts.past) → (d : ℕ) × Walks O Any a b d × (d ≤ w)
           onward (yes e) z = (z.0, subst (λ (v : ℕ). Walks O Any v b z.0) (sym e) z.1, omega (arith, z.2, f.parts.weight))
@@ -121,11 +121,11 @@ module _ (G O : Graph) (chosen : List ℕ) (x : Over G O chosen) where
                 omega (arith, t.2, z.2, f.parts.weight),
               )
 
-  pub over-path : {a b w : ℕ} {l : List ℕ} → Along G a l b w → InSet chosen a → InSet chosen b → a < G.nodes → (d : ℕ) × Reaches O Any a b d × (d ≤ w)
-  over-path {a} {b} {w} {l} r i j n =
-      let z = over-walk (length l) a b w l (omega arith) r i j n in
-      let p = path-within (omega (arith, x.nodes)) z.1 in
+  pub over_path : {a b w : ℕ} {l : List ℕ} → Along G a l b w → InSet chosen a → InSet chosen b → a < G.nodes → (d : ℕ) × Reaches O Any a b d × (d ≤ w)
+  over_path {a} {b} {w} {l} r i j n =
+      let z = over_walk (length l) a b w l (omega arith) r i j n in
+      let p = path_within (omega (arith, x.nodes)) z.1 in
       (p.0, p.1, omega (arith, z.2, p.2))
 
-  pub road-over : {a b : ℕ} → InSet chosen a → InSet chosen b → a < G.nodes → Under (Reaches G Any a b) (Reaches O Any a b)
-  road-over i j n = record { under = λ d r. over-path r.path.along i j n }
+  pub road_over : {a b : ℕ} → InSet chosen a → InSet chosen b → a < G.nodes → Under (Reaches G Any a b) (Reaches O Any a b)
+  road_over i j n = record { under = λ d r. over_path r.path.along i j n }

@@ -16,19 +16,19 @@ use Rattle.road.specs.Refusals.{First, None, Said, refusal, answer}
 use Rattle.road.specs.workings.Verdicts.{Singles}
 use Rattle.road.specs.Roads.{nodes_of, Owns, Arc, road}
 use Rattle.road.specs.workings.Sound.{Sound}
-use Rattle.road.proofs.Faults.{graph-numbered, none-of-sound, not_over}
+use Rattle.road.proofs.Faults.{graph_numbered, none_of_sound, not_over}
 use Rattle.road.specs.workings.Left.{RoadAndSetLeft}
-use Rattle.road.proofs.Left.{road-and-set-left}
+use Rattle.road.proofs.Left.{road_and_set_left}
 use Rattle.road.proofs.Refusals.{of_single, of_number, first_one, first_at, first_early, first_late, first_split, first_not_none, none_front, number_some, refusal_one, refusal_no_answer, told}
 use Rattle.road.proofs.Rows.{owner_node, owner_of}
-use Rattle.road.proofs.Verdicts.{singles_both, road-and-set-singles}
+use Rattle.road.proofs.Verdicts.{singles_both, road_and_set_singles}
 use Rattle.overlay.specs.declared.OverlayAnswer.{OverlayAnswer}
 use Rattle.overlay.specs.declared.OverlayAnswer.TheVariants.{Built, Refused}
 use Rattle.overlay.specs.Calls.{Areas, Outcome, refused, full, built, all_faults, room_fault, answered, asked_lengths, faults_of, said_of}
 use Rattle.overlay.specs.Lent.{BadOverlay}
 use Rattle.overlay.specs.Overlays.{OverlayArc, OverlayOf, ArcsInAll}
 use Rattle.overlay.proofs.Locals.{in_bytes}
-use Rattle.overlay.proofs.Outcomes.{road-light}
+use Rattle.overlay.proofs.Outcomes.{road_light}
 use Rattle.overlay.proofs.Unique as Unique
 
 -- an overlay of a road graph is well formed under the overlay's limits
@@ -45,26 +45,26 @@ module _
 
     at : (p : ℕ) → p < length heads' → (u : ℕ) × OverlayArc (road starts heads weights) chosen u (get_or heads' p 0) (get_or weights' p 0)
     at p h =
-        let w = owner_of starts' heads' (Unique.overlay-rises (road starts heads weights) chosen starts' heads' weights' o) p h in
+        let w = owner_of starts' heads' (Unique.overlay_rises (road starts heads weights) chosen starts' heads' weights' o) p h in
         (w.0, owned w.0 p w.1)
 
-    pub overlay-sound : Sound overlay_limits starts' heads' weights'
-    overlay-sound =
+    pub overlay_sound : Sound overlay_limits starts' heads' weights'
+    overlay_sound =
         record {
           sized = record { least = omega (arith, o.long, s.sized.least); most = omega (arith, o.long, s.sized.most); alike = o.alike; few = few };
-          rising = Unique.overlay-rises (road starts heads weights) chosen starts' heads' weights' o;
+          rising = Unique.overlay_rises (road starts heads weights) chosen starts' heads' weights' o;
           inside = λ p h. omega (arith, in_bytes chosen (get_or heads' p 0) (at p h).1.head, o.long);
           unlooped = λ u p w q. (owned u p w).apart (sym q);
           ascends = λ u p w v. (o.rows u (omega (arith, owner_node starts' u p w, o.long))).ascends p w.from v.below;
-          light = λ p h. (road-light starts heads weights chosen s).light (at p h).0 (get_or heads' p 0) (get_or weights' p 0) (at p h).1;
+          light = λ p h. (road_light starts heads weights chosen s).light (at p h).0 (get_or heads' p 0) (get_or weights' p 0) (at p h).1;
         }
 
     -- so it passes check 7
-    pub overlay-passes : BadOverlay chosen starts' heads' weights' → ⊥
-    overlay-passes (BadOverlay.unlike n) = n (omega (arith, o.long))
-    overlay-passes (BadOverlay.faulty r f) = first_not_none (graph_faults overlay_limits starts' heads' weights') r f (none-of-sound overlay_limits starts' heads' weights' overlay-sound)
-    overlay-passes (BadOverlay.tail u p h w n) = n (owned u p w).tail
-    overlay-passes (BadOverlay.head p h n) = n (at p h).1.head
+    pub overlay_passes : BadOverlay chosen starts' heads' weights' → ⊥
+    overlay_passes (BadOverlay.unlike n) = n (omega (arith, o.long))
+    overlay_passes (BadOverlay.faulty r f) = first_not_none (graph_faults overlay_limits starts' heads' weights') r f (none_of_sound overlay_limits starts' heads' weights' overlay_sound)
+    overlay_passes (BadOverlay.tail u p h w n) = n (owned u p w).tail
+    overlay_passes (BadOverlay.head p h n) = n (at p h).1.head
 
 -- an outcome that is an answer: nothing was at fault, there was room, the rooms' parts up to the count are the overlay, and the count is
 -- that of the pairs of the definition
@@ -87,25 +87,25 @@ said_one (Refused r) (Built c) e = absurd (refusal_no_answer r (c.0 ∷ []) e)
 said_one (Refused r) (Refused s) e = ap Refused (refusal_one r s e)
 
 module _ (starts heads weights chosen : List ℕ) (before : Areas) where
-  all-singles : Singles (faults_of starts heads weights chosen before)
-  all-singles =
-      singles_both (road_and_set_faults starts heads weights chosen) (lengths_fault (asked_lengths (nodes_of starts) before) ∷ []) (road-and-set-singles starts heads weights chosen)
+  all_singles : Singles (faults_of starts heads weights chosen before)
+  all_singles =
+      singles_both (road_and_set_faults starts heads weights chosen) (lengths_fault (asked_lengths (nodes_of starts) before) ∷ []) (road_and_set_singles starts heads weights chosen)
       (of_single, tt)
 
   left : None (faults_of starts heads weights chosen before) → RoadAndSetLeft starts heads weights chosen
-  left n = road-and-set-left starts heads weights chosen (none_front (road_and_set_faults starts heads weights chosen) (lengths_fault (asked_lengths (nodes_of starts) before) ∷ []) n)
+  left n = road_and_set_left starts heads weights chosen (none_front (road_and_set_faults starts heads weights chosen) (lengths_fault (asked_lengths (nodes_of starts) before) ∷ []) n)
 
   -- document 01's order: its faults tell these numbers, one after the other
   pub numbered : Numbered (all_faults starts heads weights chosen before) (1 ∷ 2 ∷ 3 ∷ 6 ∷ 11 ∷ 12 ∷ [])
   numbered =
-      let g = graph-numbered road_limits starts heads weights in
+      let g = graph_numbered road_limits starts heads weights in
       (g.0, (g.1.0, (g.1.1.0, (of_number, (of_number, (of_number, tt))))))
 
 module _ {starts heads weights chosen : List ℕ} {before : Areas} where
-  pub answer-of : {said : Said} {after : Areas} → Outcome starts heads weights chosen before said after → said.number ≡ 0 → Answer starts heads weights chosen before said after
-  answer-of (refused {r = r} f) e = absurd (number_some r e)
-  answer-of (full n m) e = absurd (number_some Room e)
-  answer-of (built {starts' = starts'} {heads' = heads'} {weights' = weights'} n few o) e =
+  pub answer_of : {said : Said} {after : Areas} → Outcome starts heads weights chosen before said after → said.number ≡ 0 → Answer starts heads weights chosen before said after
+  answer_of (refused {r = r} f) e = absurd (number_some r e)
+  answer_of (full n m) e = absurd (number_some Room e)
+  answer_of (built {starts' = starts'} {heads' = heads'} {weights' = weights'} n few o) e =
       record {
         sound = x.sound;
         bytes = x.set_right.bytes;
@@ -127,40 +127,40 @@ module _ {starts heads weights chosen : List ℕ} {before : Areas} where
       pairs = Unique.written_count (road starts heads weights) chosen starts' heads' weights' o x.set_right.bytes
 
   -- two outcomes that the contract allows are equal
-  pub outcome-one :
+  pub outcome_one :
       {said said' : Said} {after after' : Areas} → Outcome starts heads weights chosen before said after → Outcome starts heads weights chosen before said' after' →
       (said ≡ said') × (after ≡ after')
-  outcome-one (refused {r = r} f) (refused {r = s} g) =
-      (ap refusal (first_one (faults_of starts heads weights chosen before) r s (all-singles starts heads weights chosen before) f g), refl)
-  outcome-one (refused {r = r} f) (full n m) = absurd (first_not_none (faults_of starts heads weights chosen before) r f n)
-  outcome-one (refused {r = r} f) (built n m o) = absurd (first_not_none (faults_of starts heads weights chosen before) r f n)
-  outcome-one (full n m) (refused {r = r} f) = absurd (first_not_none (faults_of starts heads weights chosen before) r f n)
-  outcome-one (full n m) (full k l) = (refl, refl)
-  outcome-one (full n m) (built k l o) = absurd (l m)
-  outcome-one (built k l o) (refused {r = r} f) = absurd (first_not_none (faults_of starts heads weights chosen before) r f k)
-  outcome-one (built k l o) (full n m) = absurd (l m)
-  outcome-one (built {starts' = s} {heads' = h} {weights' = w} n m o) (built {starts' = s'} {heads' = h'} {weights' = w'} k l p) = (
-    ap (λ (x : List ℕ). answer (length x ∷ [])) heads-same,
-    λ i. answered (nodes_of starts) before (Unique.starts-one (road starts heads weights) chosen e s h w s' h' w' o p i) (heads-same i) (Unique.weights-one (road starts heads weights) chosen e s h w s' h' w' o p i),
+  outcome_one (refused {r = r} f) (refused {r = s} g) =
+      (ap refusal (first_one (faults_of starts heads weights chosen before) r s (all_singles starts heads weights chosen before) f g), refl)
+  outcome_one (refused {r = r} f) (full n m) = absurd (first_not_none (faults_of starts heads weights chosen before) r f n)
+  outcome_one (refused {r = r} f) (built n m o) = absurd (first_not_none (faults_of starts heads weights chosen before) r f n)
+  outcome_one (full n m) (refused {r = r} f) = absurd (first_not_none (faults_of starts heads weights chosen before) r f n)
+  outcome_one (full n m) (full k l) = (refl, refl)
+  outcome_one (full n m) (built k l o) = absurd (l m)
+  outcome_one (built k l o) (refused {r = r} f) = absurd (first_not_none (faults_of starts heads weights chosen before) r f k)
+  outcome_one (built k l o) (full n m) = absurd (l m)
+  outcome_one (built {starts' = s} {heads' = h} {weights' = w} n m o) (built {starts' = s'} {heads' = h'} {weights' = w'} k l p) = (
+    ap (λ (x : List ℕ). answer (length x ∷ [])) heads_same,
+    λ i. answered (nodes_of starts) before (Unique.starts_one (road starts heads weights) chosen e s h w s' h' w' o p i) (heads_same i) (Unique.weights_one (road starts heads weights) chosen e s h w s' h' w' o p i),
   )
     where
       e : length chosen ≡ nodes_of starts
       e = (left starts heads weights chosen before n).set_right.bytes
 
-      heads-same : h ≡ h'
-      heads-same = Unique.heads-one (road starts heads weights) chosen e s h w s' h' w' o p
+      heads_same : h ≡ h'
+      heads_same = Unique.heads_one (road starts heads weights) chosen e s h w s' h' w' o p
 
   -- and so are two answers
-  pub answer-one :
+  pub answer_one :
       (a b : OverlayAnswer) {after after' : Areas} → Outcome starts heads weights chosen before (said_of a) after → Outcome starts heads weights chosen before (said_of b) after' →
       (a ≡ b) × (after ≡ after')
-  answer-one a b o p = let e = outcome-one o p in (said_one a b e.0, e.1)
+  answer_one a b o p = let e = outcome_one o p in (said_one a b e.0, e.1)
 
   -- a refusal is of the first fault of all
-  pub refused-first : {said : Said} {after : Areas} → Outcome starts heads weights chosen before said after → said.number ≢ 0 → (r : Refusal) × (said ≡ refusal r) × First (all_faults starts heads weights chosen before) r
-  refused-first (refused {r = r} f) z = (r, refl, first_early (faults_of starts heads weights chosen before) (room_fault (road starts heads weights) chosen (length before.heads) ∷ []) r f)
-  refused-first (full n m) z = (Room, refl, first_late (faults_of starts heads weights chosen before) (room_fault (road starts heads weights) chosen (length before.heads) ∷ []) Room n (inl (told {r = Room} m)))
-  refused-first (built n m o) z = absurd (z refl)
+  pub refused_first : {said : Said} {after : Areas} → Outcome starts heads weights chosen before said after → said.number ≢ 0 → (r : Refusal) × (said ≡ refusal r) × First (all_faults starts heads weights chosen before) r
+  refused_first (refused {r = r} f) z = (r, refl, first_early (faults_of starts heads weights chosen before) (room_fault (road starts heads weights) chosen (length before.heads) ∷ []) r f)
+  refused_first (full n m) z = (Room, refl, first_late (faults_of starts heads weights chosen before) (room_fault (road starts heads weights) chosen (length before.heads) ∷ []) Room n (inl (told {r = Room} m)))
+  refused_first (built n m o) z = absurd (z refl)
 
   -- an input with two neighbouring faults, and none before them, is refused by the first
   pub in_order :
@@ -169,16 +169,16 @@ module _ {starts heads weights chosen : List ℕ} {before : Areas} where
   in_order {said} o i r s n f g = by (first_split (faults_of starts heads weights chosen before) (room_fault (road starts heads weights) chosen (length before.heads) ∷ []) r (first_at (all_faults starts heads weights chosen before) i r n f))
     where
       by : First (faults_of starts heads weights chosen before) r ⊎ (None (faults_of starts heads weights chosen before) × First (room_fault (road starts heads weights) chosen (length before.heads) ∷ []) r) → said ≡ refusal r
-      by (inl x) = (outcome-one o (refused x)).0
-      by (inr x) = ⊎_elim (λ m. (outcome-one o (full x.0 m.holds)).0 ∙ ap refusal (sym m.is)) (λ m. absurd m.1) x.1
+      by (inl x) = (outcome_one o (refused x)).0
+      by (inr x) = ⊎_elim (λ m. (outcome_one o (full x.0 m.holds)).0 ∙ ap refusal (sym m.is)) (λ m. absurd m.1) x.1
 
 module _ {starts heads weights chosen : List ℕ} {before : Areas} {said : Said} {after : Areas} (a : Answer starts heads weights chosen before said after) where
   -- the arcs that are written are those of the definition, no others
   pub no_other : (u v w : ℕ) → Arc after.starts (take a.count after.heads) (take a.count after.weights) u v w → OverlayArc (road starts heads weights) chosen u v w
-  no_other = Unique.written-arc (road starts heads weights) chosen after.starts (take a.count after.heads) (take a.count after.weights) a.overlay
+  no_other = Unique.written_arc (road starts heads weights) chosen after.starts (take a.count after.heads) (take a.count after.weights) a.overlay
 
   pub all_there : (u v w : ℕ) → OverlayArc (road starts heads weights) chosen u v w → Arc after.starts (take a.count after.heads) (take a.count after.weights) u v w
-  all_there = Unique.arc-written (road starts heads weights) chosen after.starts (take a.count after.heads) (take a.count after.weights) a.overlay a.bytes
+  all_there = Unique.arc_written (road starts heads weights) chosen after.starts (take a.count after.heads) (take a.count after.weights) a.overlay a.bytes
 
-  pub each-once : (u p q : ℕ) → Owns after.starts u p → Owns after.starts u q → get_or (take a.count after.heads) p 0 ≡ get_or (take a.count after.heads) q 0 → p ≡ q
-  each-once = Unique.written_once (road starts heads weights) chosen after.starts (take a.count after.heads) (take a.count after.weights) a.overlay
+  pub each_once : (u p q : ℕ) → Owns after.starts u p → Owns after.starts u q → get_or (take a.count after.heads) p 0 ≡ get_or (take a.count after.heads) q 0 → p ≡ q
+  each_once = Unique.written_once (road starts heads weights) chosen after.starts (take a.count after.heads) (take a.count after.weights) a.overlay

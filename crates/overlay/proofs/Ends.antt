@@ -14,15 +14,15 @@ use Rattle.road.specs.Limits.{overlay_limits}
 use Rattle.road.specs.workings.Verdicts.{Judged, Judges}
 use Rattle.road.specs.Roads.{Owns}
 use Rattle.road.specs.workings.Sound.{Sound}
-use Rattle.road.proofs.Faults.{sound-of}
+use Rattle.road.proofs.Faults.{sound_of}
 use Rattle.road.proofs.Refusals.{first_not_none, not_both, refuses}
-use Rattle.road.proofs.Rows.{owner_node, owned-listed, owner_of}
+use Rattle.road.proofs.Rows.{owner_node, owned_listed, owner_of}
 use Rattle.overlay.specs.Lent.{BadOverlay, overlay_fault}
 use Rattle.overlay.specs.workings.Ends.{RowEnds, RowEndsTo, EndsBelow, JudgesRow}
 
 module _ (chosen starts heads : List ℕ) (u : ℕ) where
-  pub ends-none : (p : ℕ) → p ≡ get_or starts u 0 → RowEndsTo chosen starts heads u p
-  ends-none p e = record { tails = λ q h o. absurd (omega (arith, o.from)); heads_in = λ q h o. absurd (omega (arith, o.from)) }
+  pub ends_none : (p : ℕ) → p ≡ get_or starts u 0 → RowEndsTo chosen starts heads u p
+  ends_none p e = record { tails = λ q h o. absurd (omega (arith, o.from)); heads_in = λ q h o. absurd (omega (arith, o.from)) }
 
   pub ends_more : (p : ℕ) → RowEndsTo chosen starts heads u p → InSet chosen u → InSet chosen (get_or heads p 0) → RowEndsTo chosen starts heads u (p + 1)
   ends_more p g i j = record { tails = λ q h o. i; heads_in = λ q h o. by q h o (ℕ_discrete q p) }
@@ -31,8 +31,8 @@ module _ (chosen starts heads : List ℕ) (u : ℕ) where
       by q h o (yes e) = subst (λ (k : ℕ). InSet chosen (get_or heads k 0)) (sym e) j
       by q h o (no n) = g.heads_in q (omega arith) o
 
-  pub ends-all : (p end : ℕ) → RowEndsTo chosen starts heads u p → end ≡ get_or starts (u + 1) 0 → end ≤ p → RowEnds chosen starts heads u
-  ends-all p end g e h = record { tails = λ q o. g.tails q (omega (arith, o.below)) o; heads_in = λ q o. g.heads_in q (omega (arith, o.below)) o }
+  pub ends_all : (p end : ℕ) → RowEndsTo chosen starts heads u p → end ≡ get_or starts (u + 1) 0 → end ≤ p → RowEnds chosen starts heads u
+  ends_all p end g e h = record { tails = λ q o. g.tails q (omega (arith, o.below)) o; heads_in = λ q o. g.heads_in q (omega (arith, o.below)) o }
 
 module _ (chosen starts heads : List ℕ) where
   pub rows_none : EndsBelow chosen starts heads 0
@@ -46,28 +46,28 @@ module _ (chosen starts heads : List ℕ) where
       by v h (no n) = g.rows v (omega arith)
 
 pub graph_sound : (starts heads weights : List ℕ) (v : Verdict) → Judges (graph_faults overlay_limits starts heads weights) v → v ≡ Passed → Sound overlay_limits starts heads weights
-graph_sound starts heads weights v j e = sound-of overlay_limits starts heads weights (j.passed e)
+graph_sound starts heads weights v j e = sound_of overlay_limits starts heads weights (j.passed e)
 
 module _ (chosen starts heads weights : List ℕ) where
-  pub row-passes : (u : ℕ) → RowEnds chosen starts heads u → JudgesRow chosen starts heads weights u Passed
-  row-passes u g = record { passed = λ e. g; refused = λ r e. absurd (not_both refl e) }
+  pub row_passes : (u : ℕ) → RowEnds chosen starts heads u → JudgesRow chosen starts heads weights u Passed
+  row_passes u g = record { passed = λ e. g; refused = λ r e. absurd (not_both refl e) }
 
-  pub row-refused : (u : ℕ) → BadOverlay chosen starts heads weights → JudgesRow chosen starts heads weights u (Refused Overlay)
-  row-refused u b = record { passed = λ e. absurd (not_both e refl); refused = λ r e. (refuses b).refused r e }
+  pub row_refused : (u : ℕ) → BadOverlay chosen starts heads weights → JudgesRow chosen starts heads weights u (Refused Overlay)
+  row_refused u b = record { passed = λ e. absurd (not_both e refl); refused = λ r e. (refuses b).refused r e }
 
-  pub refused-by : (u : ℕ) (v : Verdict) → JudgesRow chosen starts heads weights u v → (r : Refusal) → v ≡ Refused r → Judged (overlay_fault chosen starts heads weights) v
-  refused-by u v j r e = record { passed = λ p. absurd (not_both p e); refused = j.refused }
+  pub refused_by : (u : ℕ) (v : Verdict) → JudgesRow chosen starts heads weights u v → (r : Refusal) → v ≡ Refused r → Judged (overlay_fault chosen starts heads weights) v
+  refused_by u v j r e = record { passed = λ p. absurd (not_both p e); refused = j.refused }
 
   module _ (s : Sound overlay_limits starts heads weights) (u p : ℕ) (o : Owns starts u p) where
-    pub tail-outside : (InSet chosen u → ⊥) → BadOverlay chosen starts heads weights
-    tail-outside n = BadOverlay.tail u p (owned-listed starts heads s.rising u p o) o n
+    pub tail_outside : (InSet chosen u → ⊥) → BadOverlay chosen starts heads weights
+    tail_outside n = BadOverlay.tail u p (owned_listed starts heads s.rising u p o) o n
 
-    pub head-outside : (InSet chosen (get_or heads p 0) → ⊥) → BadOverlay chosen starts heads weights
-    head-outside n = BadOverlay.head p (owned-listed starts heads s.rising u p o) n
+    pub head_outside : (InSet chosen (get_or heads p 0) → ⊥) → BadOverlay chosen starts heads weights
+    head_outside n = BadOverlay.head p (owned_listed starts heads s.rising u p o) n
 
   module _ (v : Verdict) (j : Judges (graph_faults overlay_limits starts heads weights) v) where
-    pub graph-faulty : (r : Refusal) → v ≡ Refused r → BadOverlay chosen starts heads weights
-    graph-faulty r e = BadOverlay.faulty r (j.refused r e)
+    pub graph_faulty : (r : Refusal) → v ≡ Refused r → BadOverlay chosen starts heads weights
+    graph_faulty r e = BadOverlay.faulty r (j.refused r e)
 
     pub all_in : v ≡ Passed → (u : ℕ) → length starts ≡ length chosen + 1 → length chosen ≤ u → EndsBelow chosen starts heads u → BadOverlay chosen starts heads weights → ⊥
     all_in e u l h g (BadOverlay.unlike n) = n l

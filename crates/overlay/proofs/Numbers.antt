@@ -28,18 +28,18 @@ module _ {P : ℕ → Type 0} where
   number_one (skip p x) (one q y) = absurd (p q)
   number_one (skip p x) (skip q y) = number_one x y
 
-  pub number-few : {n m : ℕ} → Number P n m → m ≤ n
-  number-few none = omega arith
-  number-few (one p x) = omega (arith, number-few x)
-  number-few (skip p x) = omega (arith, number-few x)
+  pub number_few : {n m : ℕ} → Number P n m → m ≤ n
+  number_few none = omega arith
+  number_few (one p x) = omega (arith, number_few x)
+  number_few (skip p x) = omega (arith, number_few x)
 
-  number-back : (k r : ℕ) → Number P (suc k) r → (q : ℕ) × Number P k q × (q ≤ r)
-  number-back k r (one {m = m} p x) = (m, x, omega arith)
-  number-back k r (skip p x) = (r, x, omega arith)
+  number_back : (k r : ℕ) → Number P (suc k) r → (q : ℕ) × Number P k q × (q ≤ r)
+  number_back k r (one {m = m} p x) = (m, x, omega arith)
+  number_back k r (skip p x) = (r, x, omega arith)
 
   -- more numbers, no fewer of them with P
-  pub number-rise : {n m n' r : ℕ} → n ≤ n' → Number P n m → Number P n' r → m ≤ r
-  number-rise {n} {m} {n'} {r} h x y = rise (Number P) (λ k a b. number_one) number-back n' n m r h x y
+  pub number_rise : {n m n' r : ℕ} → n ≤ n' → Number P n m → Number P n' r → m ≤ r
+  number_rise {n} {m} {n'} {r} h x y = rise (Number P) (λ k a b. number_one) number_back n' n m r h x y
 
   -- one number more, as a loop counts
   pub number_more : (n m r : ℕ) → r ≡ m + 1 → P n → Number P n m → Number P (n + 1) r
@@ -48,14 +48,14 @@ module _ {P : ℕ → Type 0} where
   pub number_past : (n m r : ℕ) → r ≡ m → (P n → ⊥) → Number P n m → Number P (n + 1) r
   number_past n m r e p x = subst₂ (λ (k l : ℕ). Number P k l) (sym (add-one n)) (sym e) (skip p x)
 
-  pub number-all : (v n m : ℕ) → v ≤ n → n ≤ v → Number P v m → Number P n m
-  number-all v n m h g x =
+  pub number_all : (v n m : ℕ) → v ≤ n → n ≤ v → Number P v m → Number P n m
+  number_all v n m h g x =
       let same : v ≡ n = omega arith in
       subst (λ (k : ℕ). Number P k m) same x
 
-  pub number-none : (n : ℕ) → ((v : ℕ) → v < n → P v → ⊥) → Number P n 0
-  number-none zero f = none
-  number-none (suc n) f = skip (f n (omega arith)) (number-none n (λ v h. f v (omega arith)))
+  pub number_none : (n : ℕ) → ((v : ℕ) → v < n → P v → ⊥) → Number P n 0
+  number_none zero f = none
+  number_none (suc n) f = skip (f n (omega arith)) (number_none n (λ v h. f v (omega arith)))
 
   pub number_of : ((v : ℕ) → P v ⊎ (P v → ⊥)) → (n : ℕ) → (m : ℕ) × Number P n m
   number_of d zero = (0, none)
@@ -66,7 +66,7 @@ module _ {P : ℕ → Type 0} where
       by (inr q) r = (r.0, skip q r.1)
 
 module _ {P Q : ℕ → Type 0} where
-  pub number-map : {n m : ℕ} → ((v : ℕ) → v < n → P v → Q v) → ((v : ℕ) → v < n → Q v → P v) → Number P n m → Number Q n m
-  number-map f g none = none
-  number-map f g (one {n = n} p x) = one (f n (omega arith) p) (number-map (λ v h. f v (omega arith)) (λ v h. g v (omega arith)) x)
-  number-map f g (skip {n = n} p x) = skip (λ q. p (g n (omega arith) q)) (number-map (λ v h. f v (omega arith)) (λ v h. g v (omega arith)) x)
+  pub number_map : {n m : ℕ} → ((v : ℕ) → v < n → P v → Q v) → ((v : ℕ) → v < n → Q v → P v) → Number P n m → Number Q n m
+  number_map f g none = none
+  number_map f g (one {n = n} p x) = one (f n (omega arith) p) (number_map (λ v h. f v (omega arith)) (λ v h. g v (omega arith)) x)
+  number_map f g (skip {n = n} p x) = skip (λ q. p (g n (omega arith) q)) (number_map (λ v h. f v (omega arith)) (λ v h. g v (omega arith)) x)

@@ -8,7 +8,7 @@ use native.Mathlib.Omega.{arith}
 use lib.ListN.{length, get_or, take, drop, replicate, length-replicate, length-drop, take-append-drop}
 use lib.Seq.{get_or-drop, ext_get_or, length-take-le}
 use Rattle.paths.specs.Graphs.{arcs_of}
-use Rattle.paths.proofs.Weights.{path-light}
+use Rattle.paths.proofs.Weights.{path_light}
 use Rattle.road.specs.declared.Refusal.{Refusal}
 use Rattle.road.specs.declared.Refusal.TheVariants.{Room}
 use Rattle.road.specs.declared.Verdict.{Verdict}
@@ -20,15 +20,15 @@ use Rattle.road.specs.workings.Verdicts.{Judged, Judges}
 use Rattle.road.specs.Refusals.{refusal, answer}
 use Rattle.road.specs.Roads.{nodes_of, road}
 use Rattle.road.specs.workings.Sound.{Sound}
-use Rattle.road.proofs.Faults.{sound_wider, road-proper, road-lighter, long_at, not_over}
-use Rattle.road.proofs.Left.{road-and-set-left}
-use Rattle.road.proofs.Refusals.{judged-alone, stops, goes_on, unheld}
+use Rattle.road.proofs.Faults.{sound_wider, road_proper, road_lighter, long_at, not_over}
+use Rattle.road.proofs.Left.{road_and_set_left}
+use Rattle.road.proofs.Refusals.{judged_alone, stops, goes_on, unheld}
 use Rattle.overlay.specs.Calls.{Areas, Outcome, refused, full, built, TooMany, answered, cleared, asked_lengths, faults_of}
 use Rattle.overlay.specs.workings.Ready.{Ready}
 use Rattle.overlay.specs.Overlays.{OverlayArc, ArcsInAll}
 use Rattle.overlay.specs.workings.Writing.{Searching, Light, Enough, Building}
-use Rattle.overlay.proofs.Locals.{arcs-one}
-use Rattle.overlay.proofs.Rooms.{overlay-of}
+use Rattle.overlay.proofs.Locals.{arcs_one}
+use Rattle.overlay.proofs.Rooms.{overlay_of}
 
 -- filled with zeros, over a length that is known
 pub zeros_of : (l : List ℕ) (n m : ℕ) → l ≡ replicate n 0 → n ≡ m → l ≡ replicate m 0
@@ -46,23 +46,23 @@ front_and_rest c l m h e f =
 
 module _ (starts heads weights chosen : List ℕ) where
   -- no overlay arc of a road graph is too heavy
-  pub road-light : Sound road_limits starts heads weights → Light (road starts heads weights) chosen
-  road-light s = record { light = small }
+  pub road_light : Sound road_limits starts heads weights → Light (road starts heads weights) chosen
+  road_light s = record { light = small }
     where
       small : (a b w : ℕ) → OverlayArc (road starts heads weights) chosen a b w → w ≤ overlay_limits.weight
       small a b w x =
           let most : w ≤ arcs_of (nodes_of starts) * 1000000 =
-          path-light (road-proper road_limits starts heads weights s) (road-lighter road_limits starts heads weights s) x.least.is.path
+          path_light (road_proper road_limits starts heads weights s) (road_lighter road_limits starts heads weights s) x.least.is.path
           in
           let few : arcs_of (nodes_of starts) ≤ 4095 = omega (arith, s.sized.most) in
           let arcs : arcs_of (nodes_of starts) * 1000000 ≤ 4095 * 1000000 = mul-le-mul_right 1000000 few in
           omega arith
 
   module _ (a : Areas) (r : Ready starts heads weights chosen a) where
-    pub ready-to-search :
+    pub ready_to_search :
         (labels heap places : List ℕ) → length labels ≡ length a.labels → heap ≡ replicate (length a.heap) 0 → places ≡ replicate (length a.places) 0 →
         Searching starts heads weights chosen labels heap places
-    ready-to-search labels heap places l h p =
+    ready_to_search labels heap places l h p =
         record {
           sound = sound_wider starts heads weights r.sound;
           bytes = r.bytes;
@@ -73,8 +73,8 @@ module _ (starts heads weights chosen : List ℕ) where
           places_zero = zeros_of places (length a.places) (nodes_of starts) p r.places_long;
         }
 
-    pub room-enough : (c : ℕ) → ArcsInAll (road starts heads weights) chosen c → ((length a.heads < c) ⊎ (65536 < c) → ⊥) → Enough (road starts heads weights) chosen (length a.heads)
-    room-enough c x n = record { total = c; counted = x; enough = not_over c (length a.heads) (λ k. n (inl k)) }
+    pub room_enough : (c : ℕ) → ArcsInAll (road starts heads weights) chosen c → ((length a.heads < c) ⊎ (65536 < c) → ⊥) → Enough (road starts heads weights) chosen (length a.heads)
+    room_enough c x n = record { total = c; counted = x; enough = not_over c (length a.heads) (λ k. n (inl k)) }
 
     module _
         (labels heap places touched : List ℕ)
@@ -89,14 +89,14 @@ module _ (starts heads weights chosen : List ℕ) where
         places_zero : places ≡ replicate (nodes_of starts) 0
         places_zero = zeros_of places (length a.places) (nodes_of starts) p r.places_long
 
-        touched-zero : touched ≡ replicate (nodes_of starts) 0
-        touched-zero = zeros_of touched (length a.touched) (nodes_of starts) t r.touched_long
+        touched_zero : touched ≡ replicate (nodes_of starts) 0
+        touched_zero = zeros_of touched (length a.touched) (nodes_of starts) t r.touched_long
 
-        pub full-so :
+        pub full_so :
             (c : ℕ) → ArcsInAll (road starts heads weights) chosen c → (length a.heads < c) ⊎ (65536 < c) →
             Outcome starts heads weights chosen a (refusal Room)
             (record { starts = a.starts; heads = a.heads; weights = a.weights; labels = labels; heap = heap; places = places; touched = touched })
-        full-so c x n = subst (λ (after : Areas). Outcome starts heads weights chosen a (refusal Room) after) same (full r.none many)
+        full_so c x n = subst (λ (after : Areas). Outcome starts heads weights chosen a (refusal Room) after) same (full r.none many)
           where
             many : TooMany (road starts heads weights) chosen (length a.heads)
             many = record { count = c; counted = x; over = n }
@@ -113,20 +113,20 @@ module _ (starts heads weights chosen : List ℕ) where
                   labels = sym l i;
                   heap = sym heap_zero i;
                   places = sym places_zero i;
-                  touched = sym touched-zero i;
+                  touched = sym touched_zero i;
                 }
 
-        pub built-so :
+        pub built_so :
             (c : ℕ) → ArcsInAll (road starts heads weights) chosen c → ((length a.heads < c) ⊎ (65536 < c) → ⊥) → (starts' heads' weights' : List ℕ) (d : ℕ) →
             Building (road starts heads weights) chosen (nodes_of starts) a.heads a.weights starts' heads' weights' d →
             Outcome starts heads weights chosen a (answer (d ∷ []))
             (record { starts = starts'; heads = heads'; weights = weights'; labels = labels; heap = heap; places = places; touched = touched })
-        built-so c x n starts' heads' weights' d g =
+        built_so c x n starts' heads' weights' d g =
             subst₂ (λ (k : ℕ) (after : Areas). Outcome starts heads weights chosen a (answer (k ∷ [])) after) (length-take-le d heads' fits) same
-            (built r.none few (overlay-of (road starts heads weights) chosen a.heads a.weights starts' heads' weights' d g fits alike))
+            (built r.none few (overlay_of (road starts heads weights) chosen a.heads a.weights starts' heads' weights' d g fits alike))
           where
             count_same : d ≡ c
-            count_same = arcs-one g.counted x
+            count_same = arcs_one g.counted x
 
             fits : d ≤ length heads'
             fits = omega (arith, not_over c (length a.heads) (λ k. n (inl k)), count_same, g.heads_long)
@@ -135,13 +135,13 @@ module _ (starts heads weights chosen : List ℕ) where
             alike = omega (arith, g.heads_long, g.weights_long, r.rooms_alike)
 
             few : TooMany (road starts heads weights) chosen (length a.heads) → ⊥
-            few m = n (subst (λ (k : ℕ). (length a.heads < k) ⊎ (65536 < k)) (arcs-one m.counted x) m.over)
+            few m = n (subst (λ (k : ℕ). (length a.heads < k) ⊎ (65536 < k)) (arcs_one m.counted x) m.over)
 
-            heads-so : heads' ≡ take d heads' ++ drop (length (take d heads')) a.heads
-            heads-so = front_and_rest d heads' a.heads fits g.heads_long g.heads_kept
+            heads_so : heads' ≡ take d heads' ++ drop (length (take d heads')) a.heads
+            heads_so = front_and_rest d heads' a.heads fits g.heads_long g.heads_kept
 
-            weights-so : weights' ≡ take d weights' ++ drop (length (take d weights')) a.weights
-            weights-so = front_and_rest d weights' a.weights (omega (arith, fits, alike)) g.weights_long g.weights_kept
+            weights_so : weights' ≡ take d weights' ++ drop (length (take d weights')) a.weights
+            weights_so = front_and_rest d weights' a.weights (omega (arith, fits, alike)) g.weights_long g.weights_kept
 
             same :
                 answered (nodes_of starts) a starts' (take d heads') (take d weights') ≡
@@ -150,37 +150,37 @@ module _ (starts heads weights chosen : List ℕ) where
                 λ i.
                 record {
                   starts = starts';
-                  heads = sym heads-so i;
-                  weights = sym weights-so i;
+                  heads = sym heads_so i;
+                  weights = sym weights_so i;
                   labels = sym l i;
                   heap = sym heap_zero i;
                   places = sym places_zero i;
-                  touched = sym touched-zero i;
+                  touched = sym touched_zero i;
                 }
 
-  pub few-nodes : (v : Verdict) → Judges (road_and_set_faults starts heads weights chosen) v → v ≡ Passed → nodes_of starts ≤ 4096
-  few-nodes v j p = omega (arith, (road-and-set-left starts heads weights chosen (j.passed p)).sound.sized.most)
+  pub few_nodes : (v : Verdict) → Judges (road_and_set_faults starts heads weights chosen) v → v ≡ Passed → nodes_of starts ≤ 4096
+  few_nodes v j p = omega (arith, (road_and_set_left starts heads weights chosen (j.passed p)).sound.sized.most)
 
 -- From the checks to the outcome.
 module _ (starts heads weights chosen : List ℕ) (a : Areas) where
-  pub refused-early : (v : Verdict) (r : Refusal) → Judges (road_and_set_faults starts heads weights chosen) v → v ≡ Refused r → Outcome starts heads weights chosen a (refusal r) a
-  refused-early v r j e = refused ((stops (road_and_set_faults starts heads weights chosen) (lengths_fault (asked_lengths (nodes_of starts) a) ∷ []) e j).refused r e)
+  pub refused_early : (v : Verdict) (r : Refusal) → Judges (road_and_set_faults starts heads weights chosen) v → v ≡ Refused r → Outcome starts heads weights chosen a (refusal r) a
+  refused_early v r j e = refused ((stops (road_and_set_faults starts heads weights chosen) (lengths_fault (asked_lengths (nodes_of starts) a) ∷ []) e j).refused r e)
 
   module _ (u : Verdict) (j : Judges (road_and_set_faults starts heads weights chosen) u) (p : u ≡ Passed) where
     module _ (v : Verdict) (l : Judged (lengths_fault (asked_lengths (nodes_of starts) a)) v) where
-      all-judged : Judges (faults_of starts heads weights chosen a) v
-      all-judged = goes_on (road_and_set_faults starts heads weights chosen) (lengths_fault (asked_lengths (nodes_of starts) a) ∷ []) p j (judged-alone l)
+      all_judged : Judges (faults_of starts heads weights chosen a) v
+      all_judged = goes_on (road_and_set_faults starts heads weights chosen) (lengths_fault (asked_lengths (nodes_of starts) a) ∷ []) p j (judged_alone l)
 
-      pub refused-late : (r : Refusal) → v ≡ Refused r → Outcome starts heads weights chosen a (refusal r) a
-      refused-late r e = refused (all-judged.refused r e)
+      pub refused_late : (r : Refusal) → v ≡ Refused r → Outcome starts heads weights chosen a (refusal r) a
+      refused_late r e = refused (all_judged.refused r e)
 
       pub ready : v ≡ Passed → Ready starts heads weights chosen a
       ready q =
-          let x = road-and-set-left starts heads weights chosen (j.passed p) in
+          let x = road_and_set_left starts heads weights chosen (j.passed p) in
           let y = long_at (asked_lengths (nodes_of starts) a) (unheld (l.passed q)) in
           record {
             sound = x.sound;
-            none = all-judged.passed q;
+            none = all_judged.passed q;
             bytes = x.set_right.bytes;
             bits = x.set_right.bits;
             starts_long = y 0;

@@ -13,7 +13,7 @@ use Rattle.road.specs.Faults.{InSet}
 use Rattle.overlay.specs.Numbers.{Number, one, skip}
 use Rattle.overlay.specs.Overlays.{HasArc, RowAt}
 use Rattle.overlay.specs.workings.Writing.{Local, Found, WroteArc, put, left, Wrote}
-use Rattle.overlay.proofs.Locals.{in_bytes, found-arc, arc-found}
+use Rattle.overlay.proofs.Locals.{in_bytes, found_arc, arc_found}
 use Rattle.search.specs.workings.Rows.{label_at}
 
 pub as_wide : (i n m : ℕ) → i < n → m ≡ n → i < m
@@ -60,7 +60,7 @@ module _ (chosen labels : List ℕ) (a : ℕ) where
             found = λ p h. subst (λ (x : ℕ). Found chosen labels a x) (sym (same p)) (g.found p h);
             below = λ p h. omega (arith, g.below p h, same p);
             weighed = λ p h. ap (λ (x : ℕ). label_at labels x) (same p) ∙ g.weighed p h ∙ ap suc (sym (ap (λ (k : List ℕ). get_or k p 0) f));
-            all = λ b h x. all-by b h x (ℕ_discrete b v);
+            all = λ b h x. all_by b h x (ℕ_discrete b v);
             heads_kept = λ p h. same p ∙ g.heads_kept p h;
             weights_kept = λ p h. ap (λ (k : List ℕ). get_or k p 0) f ∙ g.weights_kept p h;
             heads_long = ap length e ∙ g.heads_long;
@@ -70,9 +70,9 @@ module _ (chosen labels : List ℕ) (a : ℕ) where
           same : (p : ℕ) → get_or heads' p 0 ≡ get_or heads p 0
           same p = ap (λ (k : List ℕ). get_or k p 0) e
 
-          all-by : (b : ℕ) → b < suc v → Found chosen labels a b → Dec (b ≡ v) → (p : ℕ) × (p < r) × (get_or heads' p 0 ≡ b)
-          all-by b h x (yes q) = absurd (n (subst (λ (y : ℕ). Found chosen labels a y) q x))
-          all-by b h x (no d) =
+          all_by : (b : ℕ) → b < suc v → Found chosen labels a b → Dec (b ≡ v) → (p : ℕ) × (p < r) × (get_or heads' p 0 ≡ b)
+          all_by b h x (yes q) = absurd (n (subst (λ (y : ℕ). Found chosen labels a y) q x))
+          all_by b h x (no d) =
               let y = g.all b (omega arith) x in
               (y.0, y.1, same y.0 ∙ y.2)
 
@@ -83,11 +83,11 @@ module _ (chosen labels : List ℕ) (a : ℕ) where
       added w x l e f hh hw =
           record {
             number = one x g.number;
-            ascends = λ p h. ascends-by p (ℕ_discrete (p + 1) r) h;
-            found = λ p h. found-by p h (ℕ_discrete p r);
+            ascends = λ p h. ascends_by p (ℕ_discrete (p + 1) r) h;
+            found = λ p h. found_by p h (ℕ_discrete p r);
             below = λ p h. below_by p h (ℕ_discrete p r);
-            weighed = λ p h. weighed-by p h (ℕ_discrete p r);
-            all = λ b h y. all-by b h y (ℕ_discrete b v);
+            weighed = λ p h. weighed_by p h (ℕ_discrete p r);
+            all = λ b h y. all_by b h y (ℕ_discrete b v);
             heads_kept = λ p h. entry_kept heads heads' r v p e (λ q. omega arith) ∙ g.heads_kept p (omega arith);
             weights_kept = λ p h. entry_kept weights weights' r w p f (λ q. omega arith) ∙ g.weights_kept p (omega arith);
             heads_long = length_written heads heads' r v e ∙ g.heads_long;
@@ -100,25 +100,25 @@ module _ (chosen labels : List ℕ) (a : ℕ) where
           new : (p : ℕ) → p ≡ r → get_or heads' p 0 ≡ v
           new p q = entry_new heads heads' r v p e hh q
 
-          ascends-by : (p : ℕ) → Dec (p + 1 ≡ r) → p + 1 < suc r → get_or heads' p 0 < get_or heads' (p + 1) 0
-          ascends-by p (yes q) h = omega (arith, old p (λ z. omega arith), new (p + 1) q, g.below p (omega arith))
-          ascends-by p (no n) h = omega (arith, old p (λ z. omega arith), old (p + 1) n, g.ascends p (omega arith))
+          ascends_by : (p : ℕ) → Dec (p + 1 ≡ r) → p + 1 < suc r → get_or heads' p 0 < get_or heads' (p + 1) 0
+          ascends_by p (yes q) h = omega (arith, old p (λ z. omega arith), new (p + 1) q, g.below p (omega arith))
+          ascends_by p (no n) h = omega (arith, old p (λ z. omega arith), old (p + 1) n, g.ascends p (omega arith))
 
-          found-by : (p : ℕ) → p < suc r → Dec (p ≡ r) → Found chosen labels a (get_or heads' p 0)
-          found-by p h (yes q) = subst (λ (y : ℕ). Found chosen labels a y) (sym (new p q)) x
-          found-by p h (no n) = subst (λ (y : ℕ). Found chosen labels a y) (sym (old p n)) (g.found p (omega arith))
+          found_by : (p : ℕ) → p < suc r → Dec (p ≡ r) → Found chosen labels a (get_or heads' p 0)
+          found_by p h (yes q) = subst (λ (y : ℕ). Found chosen labels a y) (sym (new p q)) x
+          found_by p h (no n) = subst (λ (y : ℕ). Found chosen labels a y) (sym (old p n)) (g.found p (omega arith))
 
           below_by : (p : ℕ) → p < suc r → Dec (p ≡ r) → get_or heads' p 0 < suc v
           below_by p h (yes q) = omega (arith, new p q)
           below_by p h (no n) = omega (arith, old p n, g.below p (omega arith))
 
-          weighed-by : (p : ℕ) → p < suc r → Dec (p ≡ r) → label_at labels (get_or heads' p 0) ≡ suc (get_or weights' p 0)
-          weighed-by p h (yes q) = ap (λ (y : ℕ). label_at labels y) (new p q) ∙ l ∙ ap suc (sym (entry_new weights weights' r w p f hw q))
-          weighed-by p h (no n) = ap (λ (y : ℕ). label_at labels y) (old p n) ∙ g.weighed p (omega arith) ∙ ap suc (sym (entry_kept weights weights' r w p f n))
+          weighed_by : (p : ℕ) → p < suc r → Dec (p ≡ r) → label_at labels (get_or heads' p 0) ≡ suc (get_or weights' p 0)
+          weighed_by p h (yes q) = ap (λ (y : ℕ). label_at labels y) (new p q) ∙ l ∙ ap suc (sym (entry_new weights weights' r w p f hw q))
+          weighed_by p h (no n) = ap (λ (y : ℕ). label_at labels y) (old p n) ∙ g.weighed p (omega arith) ∙ ap suc (sym (entry_kept weights weights' r w p f n))
 
-          all-by : (b : ℕ) → b < suc v → Found chosen labels a b → Dec (b ≡ v) → (p : ℕ) × (p < suc r) × (get_or heads' p 0 ≡ b)
-          all-by b h y (yes q) = (r, omega arith, new r refl ∙ sym q)
-          all-by b h y (no n) =
+          all_by : (b : ℕ) → b < suc v → Found chosen labels a b → Dec (b ≡ v) → (p : ℕ) × (p < suc r) × (get_or heads' p 0 ≡ b)
+          all_by b h y (yes q) = (r, omega arith, new r refl ∙ sym q)
+          all_by b h y (no n) =
               let z = g.all b (omega arith) y in
               (z.0, omega (arith, z.1), old z.0 (λ q. omega (arith, z.1)) ∙ z.2)
 
@@ -147,11 +147,11 @@ module _ (chosen labels : List ℕ) (a : ℕ) where
       record {
         rises = omega arith;
         ascends = λ p _ h. g.ascends p h;
-        arcs = λ p _ h. found-arc G chosen as_long a i labels l (get_or heads p 0) (get_or weights p 0) (g.found p h) (g.weighed p h);
+        arcs = λ p _ h. found_arc G chosen as_long a i labels l (get_or heads p 0) (get_or weights p 0) (g.found p h) (g.weighed p h);
         all = λ b x. there b x;
       }
     where
       there : (b : ℕ) → HasArc G chosen a b → (p : ℕ) × (0 ≤ p) × (p < r) × (get_or heads p 0 ≡ b)
       there b x =
-          let y = g.all b (in_bytes chosen b x.head) (arc-found G chosen as_long a i labels l b x) in
+          let y = g.all b (in_bytes chosen b x.head) (arc_found G chosen as_long a i labels l b x) in
           (y.0, omega arith, y.1, y.2)

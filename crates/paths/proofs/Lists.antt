@@ -12,12 +12,12 @@ use Rattle.paths.specs.Lists.{Mem, Different, Each, Inside}
 -- whether a stands in the list
 pub mem? : (a : ℕ) (l : List ℕ) → Mem a l ⊎ (Mem a l → ⊥)
 mem? a [] = inr (λ h. h)
-mem? a (x ∷ l) = mem-by (ℕ_discrete a x) (mem? a l)
+mem? a (x ∷ l) = mem_by (ℕ_discrete a x) (mem? a l)
   where
-    mem-by : Dec (a ≡ x) → Mem a l ⊎ (Mem a l → ⊥) → Mem a (x ∷ l) ⊎ (Mem a (x ∷ l) → ⊥)
-    mem-by (yes e) r = inl (inl e)
-    mem-by (no n) (inl h) = inl (inr h)
-    mem-by (no n) (inr g) = inr (⊎_elim n g)
+    mem_by : Dec (a ≡ x) → Mem a l ⊎ (Mem a l → ⊥) → Mem a (x ∷ l) ⊎ (Mem a (x ∷ l) → ⊥)
+    mem_by (yes e) r = inl (inl e)
+    mem_by (no n) (inl h) = inl (inr h)
+    mem_by (no n) (inr g) = inr (⊎_elim n g)
 
 pub mem_left : (a : ℕ) (l m : List ℕ) → Mem a l → Mem a (l ++ m)
 mem_left a (x ∷ l) m (inl e) = inl e
@@ -155,11 +155,11 @@ length_below (suc n) = ap suc (length_below n)
 mem_below : (n a : ℕ) → a < n → Mem a (below n)
 unfolding below
 mem_below zero a h = omega arith
-mem_below (suc n) a h = mem-by (ℕ_discrete a n) (mem_below n a)
+mem_below (suc n) a h = mem_by (ℕ_discrete a n) (mem_below n a)
   where
-    mem-by : Dec (a ≡ n) → (a < n → Mem a (below n)) → Mem a (below (suc n))
-    mem-by (yes e) r = inl e
-    mem-by (no d) r = inr (r (omega (arith, d)))
+    mem_by : Dec (a ≡ n) → (a < n → Mem a (below n)) → Mem a (below (suc n))
+    mem_by (yes e) r = inl e
+    mem_by (no d) r = inr (r (omega (arith, d)))
 
 below_small : (n a : ℕ) → Mem a (below n) → a < n
 unfolding below

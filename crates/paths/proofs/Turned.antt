@@ -7,7 +7,7 @@ use native.Mathlib.Omega.{arith}
 use Rattle.paths.specs.Lists.{Mem, Different, Inside}
 use Rattle.paths.specs.Graphs.{Graph, Proper, turned, Along, stop, step, IsPath, Reaches}
 use Rattle.paths.proofs.Lists.{inside_tail}
-use Rattle.paths.proofs.Ways.{weighing, end-node}
+use Rattle.paths.proofs.Ways.{weighing, end_node}
 
 -- different lists with no node in common, one turned round onto the other
 pub different_onto : (l m : List ℕ) → Different l → Different m → ((a : ℕ) → Mem a l → Mem a m → ⊥) → Different (reverse_aux l m)
@@ -31,34 +31,34 @@ pub record Back (G : Graph) (a : ℕ) (l m : List ℕ) (b c w : ℕ) : Type 0 wh
   pub along : Along (turned G) b after c w
 
 module _ {G : Graph} where
-  pub back-onto : {a : ℕ} {l : List ℕ} {b w : ℕ} (m : List ℕ) (c d : ℕ) → Along G a l b w → Along (turned G) a m c d → Back G a l m b c (w + d)
-  back-onto m c d stop q = record { after = m; list = refl; along = weighing (omega arith) q }
-  back-onto m c d (step {a = a} {x = x} {b = b} {w = w} {d = e} {l = l} s r) q = again (back-onto (a ∷ m) c (w + d) r (step s q))
+  pub back_onto : {a : ℕ} {l : List ℕ} {b w : ℕ} (m : List ℕ) (c d : ℕ) → Along G a l b w → Along (turned G) a m c d → Back G a l m b c (w + d)
+  back_onto m c d stop q = record { after = m; list = refl; along = weighing (omega arith) q }
+  back_onto m c d (step {a = a} {x = x} {b = b} {w = w} {d = e} {l = l} s r) q = again (back_onto (a ∷ m) c (w + d) r (step s q))
     where
       again : Back G x l (a ∷ m) b c (e + (w + d)) → Back G a (x ∷ l) m b c (w + e + d)
       again k = record { after = k.after; list = k.list; along = weighing (omega arith) k.along }
 
   -- the path turned round: its list is reversed
-  pub turned-path : Proper G → {a : ℕ} {l : List ℕ} {b w : ℕ} → IsPath G a l b w → (k : List ℕ) × (b ∷ k ≡ reverse (a ∷ l)) × IsPath (turned G) b k a w
-  turned-path g {a} {l} {b} {w} p = of (back-onto [] a 0 p.along stop)
+  pub turned_path : Proper G → {a : ℕ} {l : List ℕ} {b w : ℕ} → IsPath G a l b w → (k : List ℕ) × (b ∷ k ≡ reverse (a ∷ l)) × IsPath (turned G) b k a w
+  turned_path g {a} {l} {b} {w} p = of (back_onto [] a 0 p.along stop)
     where
       of : Back G a l [] b a (w + 0) → (k : List ℕ) × (b ∷ k ≡ reverse (a ∷ l)) × IsPath (turned G) b k a w
       of k = (
         k.after,
         k.list,
         record {
-          node = end-node g p.node p.along;
+          node = end_node g p.node p.along;
           along = weighing (omega arith) k.along;
           different = subst Different (sym k.list) (different_onto (a ∷ l) [] p.different tt (λ x h n. n));
         },
       )
 
   -- and the nodes strictly inside are the same
-  pub turned-reaches : Proper G → {P : ℕ → Type 0} {a b w : ℕ} → Reaches G P a b w → Reaches (turned G) P b a w
-  turned-reaches g {P} {a} {b} {w} r = of (turned-path g r.path)
+  pub turned_reaches : Proper G → {P : ℕ → Type 0} {a b w : ℕ} → Reaches G P a b w → Reaches (turned G) P b a w
+  turned_reaches g {P} {a} {b} {w} r = of (turned_path g r.path)
     where
       of : (k : List ℕ) × (b ∷ k ≡ reverse (a ∷ r.after)) × IsPath (turned G) b k a w → Reaches (turned G) P b a w
       of k = record { after = k.0; path = k.2; inner = inside_onto P a r.after [] b k.0 k.1 r.inner tt }
 
-  pub turned-proper : Proper G → Proper (turned G)
-  turned-proper g = record { tail = g.head; head = g.tail }
+  pub turned_proper : Proper G → Proper (turned G)
+  turned_proper g = record { tail = g.head; head = g.tail }

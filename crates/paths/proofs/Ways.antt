@@ -45,18 +45,18 @@ module _ {G : Graph} where
   joined (step s q) r = weighing (omega arith) (step s (joined q r))
 
   -- what holds inside both, and where they meet, holds inside the whole
-  pub inside-joined : (P : ℕ → Type 0) {a : ℕ} {l : List ℕ} {c v : ℕ} (m : List ℕ) → Along G a l c v → Inside P l → P c → Inside P m → Inside P (l ++ m)
-  inside-joined P m stop i p j = j
-  inside-joined P [] (step s stop) i p j = tt
-  inside-joined P (y ∷ m) (step s stop) i p j = (p, j)
-  inside-joined P m (step s (step t q)) i p j = (i.0, inside-joined P m (step t q) i.1 p j)
+  pub inside_joined : (P : ℕ → Type 0) {a : ℕ} {l : List ℕ} {c v : ℕ} (m : List ℕ) → Along G a l c v → Inside P l → P c → Inside P m → Inside P (l ++ m)
+  inside_joined P m stop i p j = j
+  inside_joined P [] (step s stop) i p j = tt
+  inside_joined P (y ∷ m) (step s stop) i p j = (p, j)
+  inside_joined P m (step s (step t q)) i p j = (i.0, inside_joined P m (step t q) i.1 p j)
 
-  pub walks-joined : {P : ℕ → Type 0} {a c b v w : ℕ} → Walks G P a c v → P c → Walks G P c b w → Walks G P a b (v + w)
-  walks-joined {P} f p g =
+  pub walks_joined : {P : ℕ → Type 0} {a c b v w : ℕ} → Walks G P a c v → P c → Walks G P c b w → Walks G P a b (v + w)
+  walks_joined {P} f p g =
       record {
         after = f.after ++ g.after;
         along = joined f.along g.along;
-        inner = inside-joined P g.after f.along f.inner p g.inner;
+        inner = inside_joined P g.after f.along f.inner p g.inner;
       }
 
   -- a path is a walk
@@ -64,8 +64,8 @@ module _ {G : Graph} where
   walk_of r = record { after = r.after; along = r.path.along; inner = r.inner }
 
   -- at its beginning
-  abbrev pub cut-here : {a : ℕ} {l : List ℕ} {b w c : ℕ} → Along G a l b w → c ≡ a → Cut G a l b w c
-  cut-here {a} {l} {b} {w} r e =
+  abbrev pub cut_here : {a : ℕ} {l : List ℕ} {b w c : ℕ} → Along G a l b w → c ≡ a → Cut G a l b w c
+  cut_here {a} {l} {b} {w} r e =
       record {
         front = [];
         back = l;
@@ -78,8 +78,8 @@ module _ {G : Graph} where
       }
 
   -- and one step further
-  abbrev pub cut-further : {a x : ℕ} {l : List ℕ} {b d c : ℕ} (w : ℕ) → G.Step a x w → Cut G x l b d c → Cut G a (x ∷ l) b (w + d) c
-  cut-further {x = x} w s k =
+  abbrev pub cut_further : {a x : ℕ} {l : List ℕ} {b d c : ℕ} (w : ℕ) → G.Step a x w → Cut G x l b d c → Cut G a (x ∷ l) b (w + d) c
+  cut_further {x = x} w s k =
       record {
         front = x ∷ k.front;
         back = k.back;
@@ -93,29 +93,29 @@ module _ {G : Graph} where
 
   -- a way is cut at any node of it
   pub cut : {a : ℕ} {l : List ℕ} {b w : ℕ} (c : ℕ) → Along G a l b w → Mem c (a ∷ l) → Cut G a l b w c
-  cut c stop (inl e) = cut-here stop e
+  cut c stop (inl e) = cut_here stop e
   cut c stop (inr h) = absurd h
-  cut c (step s r) (inl e) = cut-here (step s r) e
-  cut c (step {w = w} s r) (inr h) = cut-further w s (cut c r h)
+  cut c (step s r) (inl e) = cut_here (step s r) e
+  cut c (step {w = w} s r) (inr h) = cut_further w s (cut c r h)
 
   -- of different nodes, those from the cut on are different
-  different-from : {x : ℕ} {front : List ℕ} {c v : ℕ} (back : List ℕ) → Along G x front c v → Different (x ∷ (front ++ back)) → Different (c ∷ back)
-  different-from back stop d = d
-  different-from back (step s r) d = different-from back r d.1
+  different_from : {x : ℕ} {front : List ℕ} {c v : ℕ} (back : List ℕ) → Along G x front c v → Different (x ∷ (front ++ back)) → Different (c ∷ back)
+  different_from back stop d = d
+  different_from back (step s r) d = different_from back r d.1
 
   -- a node where a way ends is a node of the graph
-  pub end-node : Proper G → {a : ℕ} {l : List ℕ} {b w : ℕ} → a < G.nodes → Along G a l b w → b < G.nodes
-  end-node g h stop = h
-  end-node g h (step s r) = end-node g (g.head s) r
+  pub end_node : Proper G → {a : ℕ} {l : List ℕ} {b w : ℕ} → a < G.nodes → Along G a l b w → b < G.nodes
+  end_node g h stop = h
+  end_node g h (step s r) = end_node g (g.head s) r
 
   -- the last node of a way that goes anywhere stands in its list
-  pub end-in : {s t w y : ℕ} {l : List ℕ} → Along G s (y ∷ l) t w → Mem t (y ∷ l)
-  end-in (step x stop) = inl refl
-  end-in (step x (step y r)) = inr (end-in (step y r))
+  pub end_in : {s t w y : ℕ} {l : List ℕ} → Along G s (y ∷ l) t w → Mem t (y ∷ l)
+  end_in (step x stop) = inl refl
+  end_in (step x (step y r)) = inr (end_in (step y r))
 
   -- a path is cut into two paths
-  pub cut-path : Proper G → {a : ℕ} {l : List ℕ} {b w : ℕ} (c : ℕ) → IsPath G a l b w → Mem c (a ∷ l) → Parts G a l b w c
-  cut-path g {a} {l} {b} {w} c p h = parted (cut c p.along h)
+  pub cut_path : Proper G → {a : ℕ} {l : List ℕ} {b w : ℕ} (c : ℕ) → IsPath G a l b w → Mem c (a ∷ l) → Parts G a l b w c
+  cut_path g {a} {l} {b} {w} c p h = parted (cut c p.along h)
     where
       parted : Cut G a l b w c → Parts G a l b w c
       parted k =
@@ -123,21 +123,21 @@ module _ {G : Graph} where
           record {
             at = k;
             to = record { node = p.node; along = k.to; different = different_front (a ∷ k.front) k.back d };
-            from = record { node = end-node g p.node k.to; along = k.from; different = different-from k.back k.to d };
+            from = record { node = end_node g p.node k.to; along = k.from; different = different_from k.back k.to d };
           }
 
   module _ (P : ℕ → Type 0) where
     -- where the walk comes back to a, all before that is left out
     shorten : {a x b d w : ℕ} → (s : Simple G P x b d) → Mem a (x ∷ s.after) → d ≤ w → Simple G P a b w
-    shorten {a} {x} {b} {d} {w} s h le = from-here (cut a s.along h)
+    shorten {a} {x} {b} {d} {w} s h le = from_here (cut a s.along h)
       where
-        from-here : Cut G x s.after b s.weight a → Simple G P a b w
-        from-here k =
+        from_here : Cut G x s.after b s.weight a → Simple G P a b w
+        from_here k =
             record {
               after = k.back;
               weight = k.past;
               along = k.from;
-              different = different-from k.back k.to (subst (λ (m : List ℕ). Different (x ∷ m)) k.whole s.different);
+              different = different_from k.back k.to (subst (λ (m : List ℕ). Different (x ∷ m)) k.whole s.different);
               inner = inside_back P k.front k.back (subst (λ (m : List ℕ). Inside P m) k.whole s.inner);
               lighter = omega (arith, k.weight, s.lighter);
             }
@@ -170,8 +170,8 @@ module _ {G : Graph} where
     simple (step {x = x} {w = w} s (step t r)) i = let q = simple (step t r) i.1 in onward w s q (inside_cons P x q.after i.0 q.inner)
 
   -- a walk can be cut to a path with the same ends, no more weight and no new node inside
-  pub path-within : {P : ℕ → Type 0} {a b w : ℕ} → a < G.nodes → Walks G P a b w → (d : ℕ) × Reaches G P a b d × (d ≤ w)
-  path-within {P} {a} {b} {w} h k = of (simple P k.along k.inner)
+  pub path_within : {P : ℕ → Type 0} {a b w : ℕ} → a < G.nodes → Walks G P a b w → (d : ℕ) × Reaches G P a b d × (d ≤ w)
+  path_within {P} {a} {b} {w} h k = of (simple P k.along k.inner)
     where
       of : Simple G P a b w → (d : ℕ) × Reaches G P a b d × (d ≤ w)
       of s = (

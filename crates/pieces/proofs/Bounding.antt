@@ -10,10 +10,10 @@ use lib.Seq.{get_or-set_same, get_or-set_other}
 use Rattle.paths.specs.Graphs.{Graph, Proper, turned, Along, stop, step, IsPath}
 use Rattle.paths.specs.Lists.{Mem, Each}
 use Rattle.paths.proofs.Lists.{mem?, each_mem, mem_each, onto_mem}
-use Rattle.paths.proofs.Turned.{turned-path, turned-proper}
+use Rattle.paths.proofs.Turned.{turned_path, turned_proper}
 use Rattle.road.specs.Limits.{overlay_limits}
 use Rattle.road.specs.Roads.{road}
-use Rattle.road.proofs.Faults.{road-proper}
+use Rattle.road.proofs.Faults.{road_proper}
 use Rattle.rule.specs.Rule.{Dropped, Needed, PathOf}
 use Rattle.pieces.specs.workings.Pieces.{Even, Pieced, Kept, Near, Fits, Row, Below, Waits, Level, Spreads, Spread}
 use Rattle.trails.specs.workings.Search.{Larger}
@@ -34,7 +34,7 @@ even_along {G = G} {cover = cover} {s = s} e (stop {a = a}) d x (inr h) = elim h
 
 -- What is said of the sizes holds of the graph turned round.
 pub pieced_turned : {G : Graph} {k : ℕ} {cover s : List ℕ} → Proper G → Pieced G k cover s → Pieced (turned G) k cover s
-pieced_turned {G} {k} {cover} {s} g p = record { alike = alike'; bound = λ {a} {l} {b} {w} q d h. of a l b w q d h (turned-path (turned-proper g) q); small = p.small }
+pieced_turned {G} {k} {cover} {s} g p = record { alike = alike'; bound = λ {a} {l} {b} {w} q d h. of a l b w q d h (turned_path (turned_proper g) q); small = p.small }
   where
     alike' : Even (turned G) cover s
     alike' = record { even = λ u v w t d e. sym (p.alike.even v u w t e d) }
@@ -81,8 +81,8 @@ pub record Others (G : Graph) (cover s : List ℕ) (v but m : ℕ) : Type 0 wher
 
 module _ {G : Graph} {k : ℕ} {cover s : List ℕ} (g : Proper G) (p : Pieced G k cover s) (v : ℕ) where
   -- k is a size for any node
-  pub fits-most : Fits G k cover s v k
-  fits-most =
+  pub fits_most : Fits G k cover s v k
+  fits_most =
       record {
         most = omega arith;
         forth = record { near = λ x w t d. p.small x d };
@@ -114,8 +114,8 @@ module _ {G : Graph} {k : ℕ} {cover s : List ℕ} (g : Proper G) (p : Pieced G
       both_ways c (goes x w m t d q) (goes y w' m' t' d' q') =
           omega (arith, c.long, two o' o x y w w' t t' d d' (λ e. c.apart y (inr (subst (λ (z : ℕ). Mem z c.before) e m)) m'))
 
-      pub fits-two : Fits G k cover s v (first + second + 1)
-      fits-two =
+      pub fits_two : Fits G k cover s v (first + second + 1)
+      fits_two =
           record {
             most = omega arith;
             forth = record { near = λ x w t d. omega (arith, (near_first o).near x w t d) };
@@ -126,7 +126,7 @@ module _ {G : Graph} {k : ℕ} {cover s : List ℕ} (g : Proper G) (p : Pieced G
           by : {a : ℕ} {l : List ℕ} {b w : ℕ} → IsPath G a l b w → ((x : ℕ) → Mem x (a ∷ l) → x ≢ v → Dropped cover x) → Halves G v a l b → length (a ∷ l) ≤ first + second + 1
           by {a} {l} {b} {w} q f c =
               let free = halves_free (Dropped cover) c f in
-              both_ways c (way (turned-proper g) (pieced_turned g p) v first (near_first o') (omega arith) c.before c.to free.0)
+              both_ways c (way (turned_proper g) (pieced_turned g p) v first (near_first o') (omega arith) c.before c.to free.0)
               (way g p v first (near_first o) (omega arith) c.after c.from free.1)
 
 -- A node whose size is below k is not needed.
@@ -168,8 +168,8 @@ module _ {G : Graph} {k : ℕ} {cover s : List ℕ} {v r : ℕ} (p : Pieced G k 
   was x n d = sym (get_or-set_other cover v x 0 0 n) ∙ d
 
   module _ (pieces : List ℕ) (pl : length pieces ≡ length cover) where
-    first-waits : {H : Graph} → Near (turned H) cover s v r → Even H cover s → Level H (set cover v 0) (set s v r) (set pieces 0 v) 0 1
-    first-waits {H} near e = record { level = λ u x w t d q. by u x w t d q (ℕ_discrete u v) (ℕ_discrete x v) }
+    first_waits : {H : Graph} → Near (turned H) cover s v r → Even H cover s → Level H (set cover v 0) (set s v r) (set pieces 0 v) 0 1
+    first_waits {H} near e = record { level = λ u x w t d q. by u x w t d q (ℕ_discrete u v) (ℕ_discrete x v) }
       where
         by :
             (u x w : ℕ) → H.Step u x w → Dropped (set cover v 0) u → Dropped (set cover v 0) x → Dec (u ≡ v) → Dec (x ≡ v) →
@@ -179,12 +179,12 @@ module _ {G : Graph} {k : ℕ} {cover s : List ℕ} {v r : ℕ} (p : Pieced G k 
             inl (omega (arith, other u a, ap (λ (z : ℕ). get_or (set s v r) z 0) b, own, near.near u w (subst (λ (z : ℕ). H.Step u z w) b t) (was u a d)))
         by u x w t d q (no a) (no b) = inl (omega (arith, other u a, other x b, e.even u x w t (was u a d) (was x b q)))
 
-    pub spread-begins : Spreads G (set cover v 0) r (set s v r) (set pieces 0 v) 0 1
-    spread-begins =
+    pub spread_begins : Spreads G (set cover v 0) r (set s v r) (set pieces 0 v) 0 1
+    spread_begins =
         record {
           met = omega arith;
-          forth = first-waits {H = G} f.back p.alike;
-          back = first-waits {H = turned G} f.forth (record { even = λ u x w t d e. sym (p.alike.even x u w t e d) });
+          forth = first_waits {H = G} f.back p.alike;
+          back = first_waits {H = turned G} f.forth (record { even = λ u x w t d e. sym (p.alike.even x u w t e d) });
           node = λ j b. omega (arith, at j b, length-set cover v 0);
           low = λ j b. omega (arith, ap (λ (z : ℕ). get_or (set s v r) z 0) (at j b), own);
           room = omega (arith, room_for_one s v r (omega arith), length-set pieces 0 v);
@@ -197,8 +197,8 @@ module _ {G : Graph} {k : ℕ} {cover s : List ℕ} {v r : ℕ} (p : Pieced G k 
 
   -- and once it has spread the sizes tell the truth again
   module _ (g : Proper G) {s' : List ℕ} (d : Spread G (set cover v 0) r (set s v r) s') where
-    pub pieced-dropped : Pieced G k (set cover v 0) s'
-    pieced-dropped = record { alike = d.alike; bound = λ {a} {l} {b} {w} q e m. by q e m (mem? v (a ∷ l)); small = λ x e. small_by x e (ℕ_discrete x v) (d.grown.raised x) }
+    pub pieced_dropped : Pieced G k (set cover v 0) s'
+    pieced_dropped = record { alike = d.alike; bound = λ {a} {l} {b} {w} q e m. by q e m (mem? v (a ∷ l)); small = λ x e. small_by x e (ℕ_discrete x v) (d.grown.raised x) }
       where
         by : {a : ℕ} {l : List ℕ} {b w : ℕ} → IsPath G a l b w → Each (Dropped (set cover v 0)) (a ∷ l) → get_or s' a 0 < k → Mem v (a ∷ l) ⊎ (Mem v (a ∷ l) → ⊥) → length (a ∷ l) ≤ get_or s' a 0
         by {a} {l} q e m (inl on) =
@@ -222,40 +222,40 @@ module _ {G : Graph} {k : ℕ} {cover s : List ℕ} {v r : ℕ} (p : Pieced G k 
 
 -- The two largest sizes next to v, found in its two rows.
 module _ (starts heads weights starts' heads' weights' cover s : List ℕ) (g : Prunable starts heads weights starts' heads' weights' cover) where
-  others-forth : (v but out m : ℕ) → Row starts heads v (Below cover s but out) → out ≤ m → Others (road starts heads weights) cover s v but m
-  others-forth v but out m f h = record { others = λ x w a d n. omega (arith, (f.each x (joined_of a)).below d n) }
+  others_forth : (v but out m : ℕ) → Row starts heads v (Below cover s but out) → out ≤ m → Others (road starts heads weights) cover s v but m
+  others_forth v but out m f h = record { others = λ x w a d n. omega (arith, (f.each x (joined_of a)).below d n) }
 
-  others-back : (v but out m : ℕ) → Row starts' heads' v (Below cover s but out) → out ≤ m → Others (turned (road starts heads weights)) cover s v but m
-  others-back v but out m f h = record { others = λ x w a d n. omega (arith, (f.each x (joined_of (g.turned.round.turns x v w a))).below d n) }
+  others_back : (v but out m : ℕ) → Row starts' heads' v (Below cover s but out) → out ≤ m → Others (turned (road starts heads weights)) cover s v but m
+  others_back v but out m f h = record { others = λ x w a d n. omega (arith, (f.each x (joined_of (g.turned.round.turns x v w a))).below d n) }
 
   module _ (pieces : List ℕ) (k : ℕ) (t : Kept (road starts heads weights) k cover s pieces) (v : ℕ) where
-    pub most-fits : Fits (road starts heads weights) k cover s v k
-    most-fits = fits-most (road-proper overlay_limits starts heads weights g.sound) t.pieced v
+    pub most_fits : Fits (road starts heads weights) k cover s v k
+    most_fits = fits_most (road_proper overlay_limits starts heads weights g.sound) t.pieced v
 
-    pub two-fit :
+    pub two_fit :
         (at but out into second q p first : ℕ) → at ≡ v → Row starts heads at (Below cover s but out) → Row starts' heads' at (Below cover s but into) → Larger out into second → p ≡ but →
         q ≡ get_or s p 0 → Larger second q first → (size : ℕ) → size ≡ first + second + 1 → size < k → Fits (road starts heads weights) k cover s v size
-    two-fit at but out into second q p first e f f' l pe qe m size z h =
+    two_fit at but out into second q p first e f f' l pe qe m size z h =
         rw z
-        (fits-two (road-proper overlay_limits starts heads weights g.sound) t.pieced v but first second
-        (others-forth v but out second (subst (λ (x : ℕ). Row starts heads x (Below cover s but out)) e f) l.left)
-        (others-back v but into second (subst (λ (x : ℕ). Row starts' heads' x (Below cover s but into)) e f') l.right)
+        (fits_two (road_proper overlay_limits starts heads weights g.sound) t.pieced v but first second
+        (others_forth v but out second (subst (λ (x : ℕ). Row starts heads x (Below cover s but out)) e f) l.left)
+        (others_back v but into second (subst (λ (x : ℕ). Row starts' heads' x (Below cover s but into)) e f') l.right)
         (omega (arith, m.right, ap (λ (x : ℕ). get_or s x 0) pe)) m.left (omega arith))
 
     -- v is dropped, which is byte 0
     module _ (r : ℕ) (f : Fits (road starts heads weights) k cover s v r) (h : v < length cover) (at at' byte : ℕ) (e : at ≡ v) (e' : at' ≡ v) (z : byte ≡ 0) where
-      pub still-prunable : Prunable starts heads weights starts' heads' weights' (set cover at byte)
-      still-prunable = prunable_still starts heads weights starts' heads' weights' cover (set cover at byte) g (length-set cover at byte)
+      pub still_prunable : Prunable starts heads weights starts' heads' weights' (set cover at byte)
+      still_prunable = prunable_still starts heads weights starts' heads' weights' cover (set cover at byte) g (length-set cover at byte)
 
-      pub drop-spreads : (size : ℕ) → size ≡ r → Spreads (road starts heads weights) (set cover at byte) size (set s at' size) (set pieces 0 v) 0 1
-      drop-spreads size q = rw (z, q, e, e') (spread-begins t.pieced f h t.sizes_long pieces t.pieces_long)
+      pub drop_spreads : (size : ℕ) → size ≡ r → Spreads (road starts heads weights) (set cover at byte) size (set s at' size) (set pieces 0 v) 0 1
+      drop_spreads size q = rw (z, q, e, e') (spread_begins t.pieced f h t.sizes_long pieces t.pieces_long)
 
       pub drop_keeps :
           (size : ℕ) → size ≡ r → {s' p' : List ℕ} → Spread (road starts heads weights) (set cover at byte) size (set s at' size) s' → length s' ≡ length (set s at' size) →
           length p' ≡ length (set pieces 0 v) → Kept (road starts heads weights) k (set cover at byte) s' p'
       drop_keeps size q {s'} {p'} d sl pl =
           record {
-            pieced = rw (z, e) (pieced-dropped t.pieced f h t.sizes_long (road-proper overlay_limits starts heads weights g.sound) (rw (z, q, e, e') at d));
+            pieced = rw (z, e) (pieced_dropped t.pieced f h t.sizes_long (road_proper overlay_limits starts heads weights g.sound) (rw (z, q, e, e') at d));
             sizes_long = sl ∙ length-set s at' size ∙ t.sizes_long ∙ sym (length-set cover at byte);
             pieces_long = pl ∙ length-set pieces 0 v ∙ t.pieces_long ∙ sym (length-set cover at byte);
           }

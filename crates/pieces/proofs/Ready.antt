@@ -12,11 +12,11 @@ use Rattle.trails.proofs.Searching.{searchable}
 use Rattle.pieces.specs.workings.Steps.{Prunable}
 
 module _ (starts heads weights starts' heads' weights' cover : List ℕ) (g : Prunable starts heads weights starts' heads' weights' cover) where
-  pub search-forth : Searchable starts heads (length cover)
-  search-forth = searchable overlay_limits starts heads weights (length cover) g.sound g.bytes
+  pub search_forth : Searchable starts heads (length cover)
+  search_forth = searchable overlay_limits starts heads weights (length cover) g.sound g.bytes
 
-  pub search-back : Searchable starts' heads' (length cover)
-  search-back = searchable overlay_limits starts' heads' weights' (length cover) (g.turned.sound overlay_limits g.sound) (omega (arith, g.bytes, g.as_long))
+  pub search_back : Searchable starts' heads' (length cover)
+  search_back = searchable overlay_limits starts' heads' weights' (length cover) (g.turned.sound overlay_limits g.sound) (omega (arith, g.bytes, g.as_long))
 
 -- the bytes change and stay as many
 pub prunable_still :

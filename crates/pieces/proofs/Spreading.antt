@@ -39,45 +39,45 @@ room_for_one (x ∷ l) zero r h = omega (arith, ap bit (le-ltb r r (omega arith)
 room_for_one (x ∷ l) (suc y) r h = omega (arith, bit_small (ltb x r), room_for_one l y r (omega arith))
 
 module _ {r : ℕ} where
-  pub raises-long :
+  pub raises_long :
       {sizes pieces : List ℕ} {count : ℕ} {sizes' pieces' : List ℕ} {count' : ℕ} → Raises r sizes pieces count sizes' pieces' count' →
       (length sizes' ≡ length sizes) × (length pieces' ≡ length pieces) × (count ≤ count')
-  raises-long none = (refl, refl, omega arith)
-  raises-long (more {sizes' = s} {pieces' = p} {count' = c} q y h l) =
-      let e = raises-long q in
+  raises_long none = (refl, refl, omega arith)
+  raises_long (more {sizes' = s} {pieces' = p} {count' = c} q y h l) =
+      let e = raises_long q in
       (length-set s y r ∙ e.0, length-set p c y ∙ e.1, omega (arith, e.2))
 
-  pub raises-then :
+  pub raises_then :
       {s p : List ℕ} {c : ℕ} {s' p' : List ℕ} {c' : ℕ} {s'' p'' : List ℕ} {c'' : ℕ} → Raises r s p c s' p' c' → Raises r s' p' c' s'' p'' c'' → Raises r s p c s'' p'' c''
-  raises-then q none = q
-  raises-then q (more t y h l) = more (raises-then q t) y h l
+  raises_then q none = q
+  raises_then q (more t y h l) = more (raises_then q t) y h l
 
   -- each node raised takes one place
-  pub raises-room : {s p : List ℕ} {c : ℕ} {s' p' : List ℕ} {c' : ℕ} → Raises r s p c s' p' c' → c' + under r s' ≡ c + under r s
-  raises-room none = refl
-  raises-room (more {sizes' = s} q y h l) = omega (arith, raises-room q, under_raised s y r h l)
+  pub raises_room : {s p : List ℕ} {c : ℕ} {s' p' : List ℕ} {c' : ℕ} → Raises r s p c s' p' c' → c' + under r s' ≡ c + under r s
+  raises_room none = refl
+  raises_room (more {sizes' = s} q y h l) = omega (arith, raises_room q, under_raised s y r h l)
 
   pub room_after : {s p : List ℕ} {c : ℕ} {s' p' : List ℕ} {c' : ℕ} → Raises r s p c s' p' c' → c + under r s ≤ length p → c' + under r s' ≤ length p'
-  room_after q h = omega (arith, raises-room q, (raises-long q).1)
+  room_after q h = omega (arith, raises_room q, (raises_long q).1)
 
   -- the nodes that waited still stand where they stood
-  pub raises-front : {s p : List ℕ} {c : ℕ} {s' p' : List ℕ} {c' : ℕ} → Raises r s p c s' p' c' → (j : ℕ) → j < c → get_or p' j 0 ≡ get_or p j 0
-  raises-front none j b = refl
-  raises-front (more {pieces' = p} {count' = c} q y h l) j b = get_or-set_other p c j y 0 (λ e. omega (arith, (raises-long q).2)) ∙ raises-front q j b
+  pub raises_front : {s p : List ℕ} {c : ℕ} {s' p' : List ℕ} {c' : ℕ} → Raises r s p c s' p' c' → (j : ℕ) → j < c → get_or p' j 0 ≡ get_or p j 0
+  raises_front none j b = refl
+  raises_front (more {pieces' = p} {count' = c} q y h l) j b = get_or-set_other p c j y 0 (λ e. omega (arith, (raises_long q).2)) ∙ raises_front q j b
 
-  pub grown-none : {s : List ℕ} → Grown r s s
-  grown-none = record { rises = λ x. omega arith; raised = λ x. inl refl }
+  pub grown_none : {s : List ℕ} → Grown r s s
+  grown_none = record { rises = λ x. omega arith; raised = λ x. inl refl }
 
-  pub grown-then : {s t u : List ℕ} → Grown r s t → Grown r t u → Grown r s u
-  grown-then {s} {t} {u} g h = record { rises = λ x. omega (arith, g.rises x, h.rises x); raised = λ x. by x (g.raised x) (h.raised x) }
+  pub grown_then : {s t u : List ℕ} → Grown r s t → Grown r t u → Grown r s u
+  grown_then {s} {t} {u} g h = record { rises = λ x. omega (arith, g.rises x, h.rises x); raised = λ x. by x (g.raised x) (h.raised x) }
     where
       by : (x : ℕ) → (get_or t x 0 ≡ get_or s x 0) ⊎ (get_or t x 0 ≡ r) → (get_or u x 0 ≡ get_or t x 0) ⊎ (get_or u x 0 ≡ r) → (get_or u x 0 ≡ get_or s x 0) ⊎ (get_or u x 0 ≡ r)
       by x a (inr e) = inr e
       by x (inl d) (inl e) = inl (e ∙ d)
       by x (inr d) (inl e) = inr (e ∙ d)
 
-  grown-one : (s : List ℕ) (y : ℕ) → y < length s → get_or s y 0 < r → Grown r s (set s y r)
-  grown-one s y h l = record { rises = λ x. up x (ℕ_discrete x y); raised = λ x. to x (ℕ_discrete x y) }
+  grown_one : (s : List ℕ) (y : ℕ) → y < length s → get_or s y 0 < r → Grown r s (set s y r)
+  grown_one s y h l = record { rises = λ x. up x (ℕ_discrete x y); raised = λ x. to x (ℕ_discrete x y) }
     where
       at : (x : ℕ) → x ≡ y → get_or (set s y r) x 0 ≡ r
       at x e = ap (λ (z : ℕ). get_or (set s y r) z 0) e ∙ get_or-set_same s y r 0 h
@@ -90,28 +90,28 @@ module _ {r : ℕ} where
       to x (yes e) = inr (at x e)
       to x (no n) = inl (get_or-set_other s y x r 0 n)
 
-  pub raises-grown : {s p : List ℕ} {c : ℕ} {s' p' : List ℕ} {c' : ℕ} → Raises r s p c s' p' c' → Grown r s s'
-  raises-grown none = grown-none
-  raises-grown (more {sizes' = s} q y h l) = grown-then (raises-grown q) (grown-one s y h l)
+  pub raises_grown : {s p : List ℕ} {c : ℕ} {s' p' : List ℕ} {c' : ℕ} → Raises r s p c s' p' c' → Grown r s s'
+  raises_grown none = grown_none
+  raises_grown (more {sizes' = s} q y h l) = grown_then (raises_grown q) (grown_one s y h l)
 
   -- one node is raised
   module _ (s : List ℕ) (y z : ℕ) (e : z ≡ y) (h : y < length s) (l : get_or s y 0 < r) where
-    pub push-room : (count n : ℕ) → count + under r s ≤ n → count < n
-    push-room count n b = omega (arith, under_raised s y r h l)
+    pub push_room : (count n : ℕ) → count + under r s ≤ n → count < n
+    push_room count n b = omega (arith, under_raised s y r h l)
 
-    pub raises-one : (p : List ℕ) (count : ℕ) → Raises r s p count (set s z r) (set p count y) (count + 1)
-    raises-one p count = subst (λ (x : ℕ). Raises r s p count (set s x r) (set p count y) (count + 1)) (sym e) (more none y h l)
+    pub raises_one : (p : List ℕ) (count : ℕ) → Raises r s p count (set s z r) (set p count y) (count + 1)
+    raises_one p count = subst (λ (x : ℕ). Raises r s p count (set s x r) (set p count y) (count + 1)) (sym e) (more none y h l)
 
-    pub raised-one : (cover : List ℕ) → Raised cover (set s z r) r y
-    raised-one cover = record { raised = λ d. omega (arith, ap (λ (x : ℕ). get_or (set s x r) y 0) e, get_or-set_same s y r 0 h) }
+    pub raised_one : (cover : List ℕ) → Raised cover (set s z r) r y
+    raised_one cover = record { raised = λ d. omega (arith, ap (λ (x : ℕ). get_or (set s x r) y 0) e, get_or-set_same s y r 0 h) }
 
   -- what was raised stays raised
-  pub raised-still : (cover : List ℕ) {s s' : List ℕ} → Grown r s s' → (y : ℕ) → Raised cover s r y → Raised cover s' r y
-  raised-still cover g y f = record { raised = λ d. omega (arith, g.rises y, f.raised d) }
+  pub raised_still : (cover : List ℕ) {s s' : List ℕ} → Grown r s s' → (y : ℕ) → Raised cover s r y → Raised cover s' r y
+  raised_still cover g y f = record { raised = λ d. omega (arith, g.rises y, f.raised d) }
 
 module _ (cover : List ℕ) (r : ℕ) (s p : List ℕ) (i c y : ℕ) (m : i ≤ c) (room : c < length p) (h : y < length s) (l : get_or s y 0 < r) where
-  level-pushed : {G : Graph} → Level G cover s p i c → Level G cover (set s y r) (set p c y) i (c + 1)
-  level-pushed {G} g = record { level = λ u v w t d e. by u v (ℕ_discrete u y) (ℕ_discrete v y) (g.level u v w t d e) }
+  level_pushed : {G : Graph} → Level G cover s p i c → Level G cover (set s y r) (set p c y) i (c + 1)
+  level_pushed {G} g = record { level = λ u v w t d e. by u v (ℕ_discrete u y) (ℕ_discrete v y) (g.level u v w t d e) }
     where
       by : (u v : ℕ) → Dec (u ≡ y) → Dec (v ≡ y) → (get_or s u 0 ≤ get_or s v 0) ⊎ Waits p i c u → (get_or (set s y r) u 0 ≤ get_or (set s y r) v 0) ⊎ Waits (set p c y) i (c + 1) u
       by u v (yes e) d q = inr (record { place = c; from = m; below = omega arith; is = get_or-set_same p c y 0 room ∙ sym e })
@@ -129,12 +129,12 @@ module _ (cover : List ℕ) (r : ℕ) (s p : List ℕ) (i c y : ℕ) (m : i ≤ 
       by u v (no n) (no o) (inl b) = inl (omega (arith, get_or-set_other s y u r 0 n, get_or-set_other s y v r 0 o))
 
 module _ {G : Graph} {cover : List ℕ} {r : ℕ} where
-  spreads-pushed : (s p : List ℕ) (i c y : ℕ) → Spreads G cover r s p i c → y < length s → get_or s y 0 < r → Spreads G cover r (set s y r) (set p c y) i (c + 1)
-  spreads-pushed s p i c y g h l =
+  spreads_pushed : (s p : List ℕ) (i c y : ℕ) → Spreads G cover r s p i c → y < length s → get_or s y 0 < r → Spreads G cover r (set s y r) (set p c y) i (c + 1)
+  spreads_pushed s p i c y g h l =
       record {
         met = omega (arith, g.met);
-        forth = level-pushed cover r s p i c y g.met room h l g.forth;
-        back = level-pushed cover r s p i c y g.met room h l g.back;
+        forth = level_pushed cover r s p i c y g.met room h l g.forth;
+        back = level_pushed cover r s p i c y g.met room h l g.back;
         node = λ j b. node_by j b (ℕ_discrete j c);
         low = λ j b. low_by j b (ℕ_discrete j c);
         room = omega (arith, g.room, under_raised s y r h l, length-set p c y);
@@ -152,9 +152,9 @@ module _ {G : Graph} {cover : List ℕ} {r : ℕ} where
       node_by j b (yes e) = omega (arith, at j e, g.sizes_long)
       node_by j b (no n) = omega (arith, get_or-set_other p c j y 0 n, g.node j (omega (arith, n)))
 
-      size-by : (x : ℕ) → get_or s x 0 ≤ r → Dec (x ≡ y) → get_or (set s y r) x 0 ≤ r
-      size-by x b (yes e) = omega (arith, ap (λ (z : ℕ). get_or (set s y r) z 0) e, get_or-set_same s y r 0 h)
-      size-by x b (no n) = omega (arith, get_or-set_other s y x r 0 n)
+      size_by : (x : ℕ) → get_or s x 0 ≤ r → Dec (x ≡ y) → get_or (set s y r) x 0 ≤ r
+      size_by x b (yes e) = omega (arith, ap (λ (z : ℕ). get_or (set s y r) z 0) e, get_or-set_same s y r 0 h)
+      size_by x b (no n) = omega (arith, get_or-set_other s y x r 0 n)
 
       low_by : (j : ℕ) → j < c + 1 → Dec (j ≡ c) → get_or (set s y r) (get_or (set p c y) j 0) 0 ≤ r
       low_by j b (yes e) = omega (arith, ap (λ (z : ℕ). get_or (set s y r) z 0) (at j e), get_or-set_same s y r 0 h)
@@ -162,12 +162,12 @@ module _ {G : Graph} {cover : List ℕ} {r : ℕ} where
           omega (
             arith,
             ap (λ (z : ℕ). get_or (set s y r) z 0) (get_or-set_other p c j y 0 n),
-            size-by (get_or p j 0) (g.low j (omega (arith, n))) (ℕ_discrete (get_or p j 0) y),
+            size_by (get_or p j 0) (g.low j (omega (arith, n))) (ℕ_discrete (get_or p j 0) y),
           )
 
-  pub spreads-raises : {s p : List ℕ} {i c : ℕ} {s' p' : List ℕ} {c' : ℕ} → Spreads G cover r s p i c → Raises r s p c s' p' c' → Spreads G cover r s' p' i c'
-  spreads-raises g none = g
-  spreads-raises {i = i} g (more {sizes' = s} {pieces' = p} {count' = c} q y h l) = spreads-pushed s p i c y (spreads-raises g q) h l
+  pub spreads_raises : {s p : List ℕ} {i c : ℕ} {s' p' : List ℕ} {c' : ℕ} → Spreads G cover r s p i c → Raises r s p c s' p' c' → Spreads G cover r s' p' i c'
+  spreads_raises g none = g
+  spreads_raises {i = i} g (more {sizes' = s} {pieces' = p} {count' = c} q y h l) = spreads_pushed s p i c y (spreads_raises g q) h l
 
 -- the first node that waits has passed its size on
 level_next :
@@ -191,19 +191,19 @@ pub record Spreading (G : Graph) (cover : List ℕ) (r : ℕ) (sizes₀ sizes pi
   pub grown : Grown r sizes₀ sizes
 
 module _ {G : Graph} {cover : List ℕ} {r : ℕ} {sizes₀ : List ℕ} where
-  pub spreading-none : {p : List ℕ} {i c : ℕ} → Spreads G cover r sizes₀ p i c → Spreading G cover r sizes₀ sizes₀ p i c
-  spreading-none g = record { spreads = g; grown = grown-none }
+  pub spreading_none : {p : List ℕ} {i c : ℕ} → Spreads G cover r sizes₀ p i c → Spreading G cover r sizes₀ sizes₀ p i c
+  spreading_none g = record { spreads = g; grown = grown_none }
 
   module _ {s p : List ℕ} {i c : ℕ} (g : Spreading G cover r sizes₀ s p i c) where
-    pub spreading-place : i < c → i < length p
-    spreading-place b = omega (arith, g.spreads.room)
+    pub spreading_place : i < c → i < length p
+    spreading_place b = omega (arith, g.spreads.room)
 
-    pub spreading-node : i < c → get_or p i 0 < length cover
-    spreading-node b = g.spreads.node i b
+    pub spreading_node : i < c → get_or p i 0 < length cover
+    spreading_node b = g.spreads.node i b
 
     -- nothing waits: the size has spread
-    pub spreading-end : c ≤ i → Spread G cover r sizes₀ s
-    spreading-end b =
+    pub spreading_end : c ≤ i → Spread G cover r sizes₀ s
+    spreading_end b =
         record {
           alike = record { even = λ u v w t d e. omega (arith, settled u v (g.spreads.forth.level u v w t d e), settled v u (g.spreads.back.level v u w t e d)) };
           grown = g.grown;
@@ -218,35 +218,35 @@ module _ (starts heads weights starts' heads' weights' cover : List ℕ) (r : �
     {s p : List ℕ} {i c : ℕ} (g : Spreading (road starts heads weights) cover r sizes₀ s p i c) (b : i < c) (x : ℕ) (xe : x ≡ get_or p i 0) {s' p' : List ℕ} {c' : ℕ}
     (q : Raises r s p c s' p' c') (f : Row starts heads x (Raised cover s' r)) {s'' p'' : List ℕ} {c'' : ℕ} (q' : Raises r s' p' c' s'' p'' c'')
     (f' : Row starts' heads' x (Raised cover s'' r)) where
-  pub spreading-more : Spreading (road starts heads weights) cover r sizes₀ s'' p'' (i + 1) c''
-  spreading-more =
+  pub spreading_more : Spreading (road starts heads weights) cover r sizes₀ s'' p'' (i + 1) c''
+  spreading_more =
       record {
         spreads =
             record {
-              met = omega (arith, (raises-long q).2, (raises-long q').2);
-              forth = level_next {G = road starts heads weights} r (h.low i first) over-forth h.forth;
-              back = level_next {G = turned (road starts heads weights)} r (h.low i first) over-back h.back;
+              met = omega (arith, (raises_long q).2, (raises_long q').2);
+              forth = level_next {G = road starts heads weights} r (h.low i first) over_forth h.forth;
+              back = level_next {G = turned (road starts heads weights)} r (h.low i first) over_back h.back;
               node = h.node;
               low = h.low;
               room = h.room;
               sizes_long = h.sizes_long;
               pieces_long = h.pieces_long;
             };
-        grown = grown-then g.grown (grown-then (raises-grown q) (raises-grown q'));
+        grown = grown_then g.grown (grown_then (raises_grown q) (raises_grown q'));
       }
     where
       h : Spreads (road starts heads weights) cover r s'' p'' i c''
-      h = spreads-raises (spreads-raises g.spreads q) q'
+      h = spreads_raises (spreads_raises g.spreads q) q'
 
       first : i < c''
-      first = omega (arith, (raises-long q).2, (raises-long q').2)
+      first = omega (arith, (raises_long q).2, (raises_long q').2)
 
       same : get_or p'' i 0 ≡ x
-      same = raises-front q' i (omega (arith, (raises-long q).2)) ∙ raises-front q i b ∙ sym xe
+      same = raises_front q' i (omega (arith, (raises_long q).2)) ∙ raises_front q i b ∙ sym xe
 
-      over-forth : (v w : ℕ) → (road starts heads weights).Step (get_or p'' i 0) v w → Dropped cover v → r ≤ get_or s'' v 0
-      over-forth v w a d =
-          (raised-still cover (raises-grown q') v (f.each v (joined_of (subst (λ (z : ℕ). (road starts heads weights).Step z v w) same a)))).raised d
+      over_forth : (v w : ℕ) → (road starts heads weights).Step (get_or p'' i 0) v w → Dropped cover v → r ≤ get_or s'' v 0
+      over_forth v w a d =
+          (raised_still cover (raises_grown q') v (f.each v (joined_of (subst (λ (z : ℕ). (road starts heads weights).Step z v w) same a)))).raised d
 
-      over-back : (v w : ℕ) → (road starts heads weights).Step v (get_or p'' i 0) w → Dropped cover v → r ≤ get_or s'' v 0
-      over-back v w a d = (f'.each v (joined_of (t.turns v x w (subst (λ (z : ℕ). (road starts heads weights).Step v z w) same a)))).raised d
+      over_back : (v w : ℕ) → (road starts heads weights).Step v (get_or p'' i 0) w → Dropped cover v → r ≤ get_or s'' v 0
+      over_back v w a d = (f'.each v (joined_of (t.turns v x w (subst (λ (z : ℕ). (road starts heads weights).Step v z w) same a)))).raised d

@@ -24,8 +24,8 @@ module _ (room : ℕ) (line : List ℕ) (f : Frame) where
       let e : take 261 line ≡ line = take_all 261 line (omega arith) in
       (subst (λ (l : List ℕ). ReadAs room l f) e, subst (λ (l : List ℕ). ReadAs room l f) (sym e))
 
-  pub cut-read : ReadAs room (take 261 line) f → ReadAs room line f
-  cut-read = (cut_by (dec_lt 260 (length line))).0
+  pub cut_read : ReadAs room (take 261 line) f → ReadAs room line f
+  cut_read = (cut_by (dec_lt 260 (length line))).0
 
-  pub read-cut : ReadAs room line f → ReadAs room (take 261 line) f
-  read-cut = (cut_by (dec_lt 260 (length line))).1
+  pub read_cut : ReadAs room line f → ReadAs room (take 261 line) f
+  read_cut = (cut_by (dec_lt 260 (length line))).1

@@ -62,14 +62,14 @@ value_high char g h =
 
 -- two characters
 module _ (high low x y : ℕ) (a : Valued high x) (b : Valued low y) where
-  pub pair-yes : x < 16 → y < 16 → DigitsOf high low (x * 16 + y)
-  pair-yes h l =
+  pub pair_yes : x < 16 → y < 16 → DigitsOf high low (x * 16 + y)
+  pair_yes h l =
       let e : x ≡ (x * 16 + y) / 16 = omega arith in
       let f : y ≡ (x * 16 + y) % 16 = omega arith in
       record { byte = omega arith; first = a.is h ∙ ap digit e; second = b.is l ∙ ap digit f }
 
-  pub pair-no-high : 16 ≤ x → (n : ℕ) → DigitsOf high low n → ⊥
-  pair-no-high h n d = let s = d.byte in a.none h (n / 16) (omega arith) d.first
+  pub pair_no_high : 16 ≤ x → (n : ℕ) → DigitsOf high low n → ⊥
+  pair_no_high h n d = let s = d.byte in a.none h (n / 16) (omega arith) d.first
 
-  pub pair-no-low : 16 ≤ y → (n : ℕ) → DigitsOf high low n → ⊥
-  pair-no-low h n d = b.none h (n % 16) (omega arith) d.second
+  pub pair_no_low : 16 ≤ y → (n : ℕ) → DigitsOf high low n → ⊥
+  pair_no_low h n d = b.none h (n % 16) (omega arith) d.second

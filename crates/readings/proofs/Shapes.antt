@@ -62,8 +62,8 @@ kind_right (question a b) = refl
 kind_right (drive l) = refl
 
 module _ (room : ℕ) (b : List ℕ) where
-  kind-of : (f : Frame) → BytesAs room b f → get_or b 0 0 ≡ kind_of f
-  kind-of f s = ap (λ (l : List ℕ). get_or l 0 0) s.same ∙ kind_right f
+  kind_as : (f : Frame) → BytesAs room b f → get_or b 0 0 ≡ kind_of f
+  kind_as f s = ap (λ (l : List ℕ). get_or l 0 0) s.same ∙ kind_right f
 
   length_count_of : (f : Frame) → BytesAs room b f → length b ≡ count_of f
   length_count_of f s = ap length s.same ∙ count_right f
@@ -73,37 +73,37 @@ module _ (room : ℕ) (b : List ℕ) where
   byte_of f p s = ap (λ (l : List ℕ). get_or l p 0) s.same
 
   -- nothing is told where no frame has these bytes
-  pub empty-wrong : length b ≡ 0 → (f : Frame) → BytesAs room b f → ⊥
-  empty-wrong h (head n m k) s = omega (arith, length_count_of (head n m k) s)
-  empty-wrong h (arc t o w) s = omega (arith, length_count_of (arc t o w) s)
-  empty-wrong h (question a o) s = omega (arith, length_count_of (question a o) s)
-  empty-wrong h (drive l) s = omega (arith, length_count_of (drive l) s)
+  pub empty_wrong : length b ≡ 0 → (f : Frame) → BytesAs room b f → ⊥
+  empty_wrong h (head n m k) s = omega (arith, length_count_of (head n m k) s)
+  empty_wrong h (arc t o w) s = omega (arith, length_count_of (arc t o w) s)
+  empty_wrong h (question a o) s = omega (arith, length_count_of (question a o) s)
+  empty_wrong h (drive l) s = omega (arith, length_count_of (drive l) s)
 
-  pub kind-wrong : get_or b 0 0 ≢ 16 → get_or b 0 0 ≢ 17 → get_or b 0 0 ≢ 32 → get_or b 0 0 ≢ 48 → (f : Frame) → BytesAs room b f → ⊥
-  kind-wrong p q r z (head n m k) s = p (kind-of (head n m k) s)
-  kind-wrong p q r z (arc t o w) s = q (kind-of (arc t o w) s)
-  kind-wrong p q r z (question a o) s = r (kind-of (question a o) s)
-  kind-wrong p q r z (drive l) s = z (kind-of (drive l) s)
+  pub kind_wrong : get_or b 0 0 ≢ 16 → get_or b 0 0 ≢ 17 → get_or b 0 0 ≢ 32 → get_or b 0 0 ≢ 48 → (f : Frame) → BytesAs room b f → ⊥
+  kind_wrong p q r z (head n m k) s = p (kind_as (head n m k) s)
+  kind_wrong p q r z (arc t o w) s = q (kind_as (arc t o w) s)
+  kind_wrong p q r z (question a o) s = r (kind_as (question a o) s)
+  kind_wrong p q r z (drive l) s = z (kind_as (drive l) s)
 
   module _ (is : get_or b 0 0 ≡ 16) where
-    only-head : (P : Type 0) → ((n m k : ℕ) → BytesAs room b (head n m k) → P) → (f : Frame) → BytesAs room b f → P
-    only-head P h (head n m k) s = h n m k s
-    only-head P h (arc t o w) s = absurd (omega (arith, kind-of (arc t o w) s))
-    only-head P h (question a o) s = absurd (omega (arith, kind-of (question a o) s))
-    only-head P h (drive l) s = absurd (omega (arith, kind-of (drive l) s))
+    only_head : (P : Type 0) → ((n m k : ℕ) → BytesAs room b (head n m k) → P) → (f : Frame) → BytesAs room b f → P
+    only_head P h (head n m k) s = h n m k s
+    only_head P h (arc t o w) s = absurd (omega (arith, kind_as (arc t o w) s))
+    only_head P h (question a o) s = absurd (omega (arith, kind_as (question a o) s))
+    only_head P h (drive l) s = absurd (omega (arith, kind_as (drive l) s))
 
-    pub head-length : length b ≢ 6 → (f : Frame) → BytesAs room b f → ⊥
-    head-length h = only-head ⊥ (λ n m k s. h (length_count_of (head n m k) s))
+    pub head_length : length b ≢ 6 → (f : Frame) → BytesAs room b f → ⊥
+    head_length h = only_head ⊥ (λ n m k s. h (length_count_of (head n m k) s))
 
     module _ (n m k : ℕ) (long : length b ≡ 6) (p : TwoAt b 1 n) (q : TwoAt b 3 m) (r : (k ≡ get_or b 5 0) × (get_or b 5 0 < 256)) where
-      pub head-nodes : 512 < n → (f : Frame) → BytesAs room b f → ⊥
-      head-nodes h =
-          only-head ⊥
+      pub head_nodes : 512 < n → (f : Frame) → BytesAs room b f → ⊥
+      head_nodes h =
+          only_head ⊥
           (λ n' m' k' s. omega (arith, p.value, p.high, p.low, byte_of (head n' m' k') 1 s, byte_of (head n' m' k') 2 s, s.taken.0))
 
-      pub head-arcs : 2048 < m → (f : Frame) → BytesAs room b f → ⊥
-      head-arcs h =
-          only-head ⊥
+      pub head_arcs : 2048 < m → (f : Frame) → BytesAs room b f → ⊥
+      head_arcs h =
+          only_head ⊥
           (λ n' m' k' s. omega (arith, q.value, q.high, q.low, byte_of (head n' m' k') 3 s, byte_of (head n' m' k') 4 s, s.taken.1))
 
       pub head_read : n ≤ 512 → m ≤ 2048 → BytesAs room b (head n m k)
@@ -120,14 +120,14 @@ module _ (room : ℕ) (b : List ℕ) where
           }
 
   module _ (is : get_or b 0 0 ≡ 17) where
-    pub arc-length : length b ≢ 9 → (f : Frame) → BytesAs room b f → ⊥
-    arc-length h (head n m k) s = omega (arith, kind-of (head n m k) s)
-    arc-length h (arc t o w) s = h (length_count_of (arc t o w) s)
-    arc-length h (question a o) s = omega (arith, kind-of (question a o) s)
-    arc-length h (drive l) s = omega (arith, kind-of (drive l) s)
+    pub arc_length : length b ≢ 9 → (f : Frame) → BytesAs room b f → ⊥
+    arc_length h (head n m k) s = omega (arith, kind_as (head n m k) s)
+    arc_length h (arc t o w) s = h (length_count_of (arc t o w) s)
+    arc_length h (question a o) s = omega (arith, kind_as (question a o) s)
+    arc_length h (drive l) s = omega (arith, kind_as (drive l) s)
 
-    pub arc-read : (t o x y : ℕ) → length b ≡ 9 → TwoAt b 1 t → TwoAt b 3 o → TwoAt b 5 x → TwoAt b 7 y → BytesAs room b (arc t o (65536 * x + y))
-    arc-read t o x y long p q u v =
+    pub arc_read : (t o x y : ℕ) → length b ≡ 9 → TwoAt b 1 t → TwoAt b 3 o → TwoAt b 5 x → TwoAt b 7 y → BytesAs room b (arc t o (65536 * x + y))
+    arc_read t o x y long p q u v =
         let e₁ : get_or b 1 0 ≡ t / 256 % 256 = omega (arith, p.value, p.high, p.low) in
         let e₂ : get_or b 2 0 ≡ t % 256 = omega (arith, p.value, p.high, p.low) in
         let e₃ : get_or b 3 0 ≡ o / 256 % 256 = omega (arith, q.value, q.high, q.low) in
@@ -147,14 +147,14 @@ module _ (room : ℕ) (b : List ℕ) where
         }
 
   module _ (is : get_or b 0 0 ≡ 32) where
-    pub question-length : length b ≢ 5 → (f : Frame) → BytesAs room b f → ⊥
-    question-length h (head n m k) s = omega (arith, kind-of (head n m k) s)
-    question-length h (arc t o w) s = omega (arith, kind-of (arc t o w) s)
-    question-length h (question a o) s = h (length_count_of (question a o) s)
-    question-length h (drive l) s = omega (arith, kind-of (drive l) s)
+    pub question_length : length b ≢ 5 → (f : Frame) → BytesAs room b f → ⊥
+    question_length h (head n m k) s = omega (arith, kind_as (head n m k) s)
+    question_length h (arc t o w) s = omega (arith, kind_as (arc t o w) s)
+    question_length h (question a o) s = h (length_count_of (question a o) s)
+    question_length h (drive l) s = omega (arith, kind_as (drive l) s)
 
-    pub question-read : (x y : ℕ) → length b ≡ 5 → TwoAt b 1 x → TwoAt b 3 y → BytesAs room b (question x y)
-    question-read x y long p q =
+    pub question_read : (x y : ℕ) → length b ≡ 5 → TwoAt b 1 x → TwoAt b 3 y → BytesAs room b (question x y)
+    question_read x y long p q =
         let e₁ : get_or b 1 0 ≡ x / 256 % 256 = omega (arith, p.value, p.high, p.low) in
         let e₂ : get_or b 2 0 ≡ x % 256 = omega (arith, p.value, p.high, p.low) in
         let e₃ : get_or b 3 0 ≡ y / 256 % 256 = omega (arith, q.value, q.high, q.low) in
@@ -166,26 +166,26 @@ module _ (room : ℕ) (b : List ℕ) where
         }
 
   module _ (is : get_or b 0 0 ≡ 48) where
-    only-drive : (P : Type 0) → ((l : List ℕ) → BytesAs room b (drive l) → P) → (f : Frame) → BytesAs room b f → P
-    only-drive P h (head n m k) s = absurd (omega (arith, kind-of (head n m k) s))
-    only-drive P h (arc t o w) s = absurd (omega (arith, kind-of (arc t o w) s))
-    only-drive P h (question a o) s = absurd (omega (arith, kind-of (question a o) s))
-    only-drive P h (drive l) s = h l s
+    only_drive : (P : Type 0) → ((l : List ℕ) → BytesAs room b (drive l) → P) → (f : Frame) → BytesAs room b f → P
+    only_drive P h (head n m k) s = absurd (omega (arith, kind_as (head n m k) s))
+    only_drive P h (arc t o w) s = absurd (omega (arith, kind_as (arc t o w) s))
+    only_drive P h (question a o) s = absurd (omega (arith, kind_as (question a o) s))
+    only_drive P h (drive l) s = h l s
 
-    pub drive-short : length b < 2 → (f : Frame) → BytesAs room b f → ⊥
-    drive-short h = only-drive ⊥ (λ l s. omega (arith, length_count_of (drive l) s))
+    pub drive_short : length b < 2 → (f : Frame) → BytesAs room b f → ⊥
+    drive_short h = only_drive ⊥ (λ l s. omega (arith, length_count_of (drive l) s))
 
     module _ (count : ℕ) (e : count ≡ get_or b 1 0) where
-      pub drive-length : length b ≢ 2 + 2 * count → (f : Frame) → BytesAs room b f → ⊥
-      drive-length h =
-          only-drive ⊥
+      pub drive_length : length b ≢ 2 + 2 * count → (f : Frame) → BytesAs room b f → ⊥
+      drive_length h =
+          only_drive ⊥
           (λ l s. h (let k = length_count_of (drive l) s in let d = byte_of (drive l) 1 s in let q = s.fits.0 in omega arith))
 
-      pub drive-many : length b ≡ 2 + 2 * count → 64 < count → (f : Frame) → BytesAs room b f → ⊥
-      drive-many g h = only-drive ⊥ (λ l s. omega (arith, length_count_of (drive l) s, s.taken.0))
+      pub drive_many : length b ≡ 2 + 2 * count → 64 < count → (f : Frame) → BytesAs room b f → ⊥
+      drive_many g h = only_drive ⊥ (λ l s. omega (arith, length_count_of (drive l) s, s.taken.0))
 
-      pub drive-room : length b ≡ 2 + 2 * count → room < count → (f : Frame) → BytesAs room b f → ⊥
-      drive-room g h = only-drive ⊥ (λ l s. omega (arith, length_count_of (drive l) s, s.taken.1))
+      pub drive_room : length b ≡ 2 + 2 * count → room < count → (f : Frame) → BytesAs room b f → ⊥
+      drive_room g h = only_drive ⊥ (λ l s. omega (arith, length_count_of (drive l) s, s.taken.1))
 
 -- the same in every room
 pub fixed_wrong : (b : List ℕ) → ((room : ℕ) (f : Frame) → BytesAs room b f → ⊥) → TellsFixed b Wrong
@@ -207,12 +207,12 @@ head_told b n m k n' m' k' e f d h =
 
 module _ (b : List ℕ) where
   -- a drive's nodes
-  pub nodes-none : (nodes : List ℕ) → 2 ≤ length b → NodesRead b nodes 0 nodes
-  nodes-none nodes h = record { long = refl; front = two_more b 0 (omega arith); small = tt; rest = refl }
+  pub nodes_none : (nodes : List ℕ) → 2 ≤ length b → NodesRead b nodes 0 nodes
+  nodes_none nodes h = record { long = refl; front = two_more b 0 (omega arith); small = tt; rest = refl }
 
   module _ (nodes : List ℕ) (i : ℕ) (nodes' : List ℕ) (r : NodesRead b nodes i nodes') where
-    pub nodes-more : (x : ℕ) → i < length nodes → 2 + 2 * i + 1 < length b → TwoAt b (2 + 2 * i) x → NodesRead b nodes (i + 1) (set nodes' i x)
-    nodes-more x k h p =
+    pub nodes_more : (x : ℕ) → i < length nodes → 2 + 2 * i + 1 < length b → TwoAt b (2 + 2 * i) x → NodesRead b nodes (i + 1) (set nodes' i x)
+    nodes_more x k h p =
         let next : suc i ≡ i + 1 = omega arith in
         let twice : 2 + 2 * i + 2 ≡ 2 + 2 * (i + 1) = omega arith in
         let fits : i < length nodes' = omega (arith, r.long) in
@@ -229,8 +229,8 @@ module _ (b : List ℕ) where
               drop-set-lt (i + 1) nodes' i x (omega arith) ∙ sym (drop-drop 1 i nodes') ∙ ap (λ (l : List ℕ). drop 1 l) r.rest ∙ drop-drop 1 i nodes;
         }
 
-    pub drive-read : get_or b 0 0 ≡ 48 → length b ≡ 2 + 2 * i → i ≡ get_or b 1 0 → i ≤ 64 → i ≤ length nodes → Tells (BytesAs (length nodes) b) (Drive i) nodes nodes'
-    drive-read is long count few room =
+    pub drive_read : get_or b 0 0 ≡ 48 → length b ≡ 2 + 2 * i → i ≡ get_or b 1 0 → i ≤ 64 → i ≤ length nodes → Tells (BytesAs (length nodes) b) (Drive i) nodes nodes'
+    drive_read is long count few room =
         let l = take i nodes' in
         let size : length (take i nodes') ≡ i = length-take-le i nodes' (omega (arith, r.long)) in
         let first : get_or b 1 0 ≡ length (take i nodes') % 256 = omega arith in (
@@ -270,19 +270,19 @@ pub no_text : (room : ℕ) (line : List ℕ) → ((bytes : List ℕ) → length 
 no_text room line h f r = h (bytes_of f) (few_bytes room f r.taken) (text_of room line f r)
 
 module _ (room : ℕ) (line bytes : List ℕ) (t : TextOf line bytes) where
-  frames-text : (f : Frame) → BytesAs room bytes f → ReadAs room line f
-  frames-text f s = record { text = t.text ∙ ap hex_text s.same; fits = s.fits; taken = s.taken }
+  frames_text : (f : Frame) → BytesAs room bytes f → ReadAs room line f
+  frames_text f s = record { text = t.text ∙ ap hex_text s.same; fits = s.fits; taken = s.taken }
 
-  texts-frame : (f : Frame) → ReadAs room line f → BytesAs room bytes f
-  texts-frame f r =
+  texts_frame : (f : Frame) → ReadAs room line f → BytesAs room bytes f
+  texts_frame f r =
       record { same = text_one bytes (bytes_of f) t.small (small_bytes f) (sym t.text ∙ r.text); fits = r.fits; taken = r.taken }
 
   told_text : (told : Line) (nodes nodes' : List ℕ) → Tells (BytesAs room bytes) told nodes nodes' → Tells (ReadAs room line) told nodes nodes'
-  told_text (Head n m k) nodes nodes' h = (frames-text (head n.0 m.0 k.0) h.0, h.1)
-  told_text (Arc a b w) nodes nodes' h = (frames-text (arc a b w) h.0, h.1)
-  told_text (Question a b) nodes nodes' h = (frames-text (question a b) h.0, h.1)
-  told_text (Drive c) nodes nodes' h = (h.0, frames-text (drive h.0) h.1, h.2, h.3)
-  told_text Wrong nodes nodes' h = ((λ f r. h.0 f (texts-frame f r)), h.1)
+  told_text (Head n m k) nodes nodes' h = (frames_text (head n.0 m.0 k.0) h.0, h.1)
+  told_text (Arc a b w) nodes nodes' h = (frames_text (arc a b w) h.0, h.1)
+  told_text (Question a b) nodes nodes' h = (frames_text (question a b) h.0, h.1)
+  told_text (Drive c) nodes nodes' h = (h.0, frames_text (drive h.0) h.1, h.2, h.3)
+  told_text Wrong nodes nodes' h = ((λ f r. h.0 f (texts_frame f r)), h.1)
 
 pub nodes_end : (b nodes : List ℕ) (i count : ℕ) (nodes' : List ℕ) → NodesRead b nodes i nodes' → i ≤ count → count ≤ i → NodesRead b nodes count nodes'
 nodes_end b nodes i count nodes' r g h = let e : i ≡ count = omega arith in subst (λ (j : ℕ). NodesRead b nodes j nodes') e r

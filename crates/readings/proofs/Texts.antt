@@ -66,12 +66,12 @@ pub odd : (line : List ℕ) → length line % 2 ≢ 0 → (bytes : List ℕ) →
 odd line h bytes m t = h (let e = text_long line bytes t in omega arith)
 
 module _ (line : List ℕ) where
-  pub reading-none : (room : List ℕ) → length room ≡ most_bytes → Reading line room 0
-  reading-none room h = record { long = h; within = omega arith; text = refl; small = tt }
+  pub reading_none : (room : List ℕ) → length room ≡ most_bytes → Reading line room 0
+  reading_none room h = record { long = h; within = omega arith; text = refl; small = tt }
 
   module _ (room : List ℕ) (i : ℕ) (r : Reading line room i) where
-    pub reading-more : (b : ℕ) → 2 * i + 1 < length line → i < most_bytes → DigitsOf (get_or line (2 * i) 0) (get_or line (2 * i + 1) 0) b → Reading line (set room i b) (i + 1)
-    reading-more b h k d =
+    pub reading_more : (b : ℕ) → 2 * i + 1 < length line → i < most_bytes → DigitsOf (get_or line (2 * i) 0) (get_or line (2 * i + 1) 0) b → Reading line (set room i b) (i + 1)
+    reading_more b h k d =
         let next : suc i ≡ i + 1 = omega arith in
         let twice : 2 * i + 2 ≡ 2 * (i + 1) = omega arith in
         let fits : i < length room = omega (arith, r.long) in
@@ -85,10 +85,10 @@ module _ (line : List ℕ) where
           small = subst (Each (λ (x : ℕ). x < 256)) (sym taken) (each_more (λ (x : ℕ). x < 256) (take i room) b r.small d.byte);
         }
 
-    pub reading-stop :
+    pub reading_stop :
         2 * i + 1 < length line → ((b : ℕ) → DigitsOf (get_or line (2 * i) 0) (get_or line (2 * i + 1) 0) b → ⊥) → (bytes : List ℕ) → length bytes ≤ most_bytes →
         TextOf line bytes → ⊥
-    reading-stop h none bytes m t =
+    reading_stop h none bytes m t =
         let k : i < length bytes = omega (arith, text_long line bytes t) in
         none (get_or bytes i 0)
         (record {
@@ -97,8 +97,8 @@ module _ (line : List ℕ) where
           second = ap (λ (l : List ℕ). get_or l (2 * i + 1) 0) t.text ∙ (hex_at bytes i k).1;
         })
 
-    pub reading-end : (count : ℕ) → length line ≡ 2 * count → length line ≤ 260 → count ≤ i → TextOf line (take count room) × (count ≤ most_bytes)
-    reading-end count e s h =
+    pub reading_end : (count : ℕ) → length line ≡ 2 * count → length line ≤ 260 → count ≤ i → TextOf line (take count room) × (count ≤ most_bytes)
+    reading_end count e s h =
         let same : i ≡ count = omega (arith, r.within) in (
           record {
             text = sym (take_all (2 * count) line (omega arith)) ∙ subst (λ (j : ℕ). take (2 * j) line ≡ hex_text (take j room)) same r.text;

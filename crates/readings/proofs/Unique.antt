@@ -110,16 +110,16 @@ module _ {P : Frame → Type 0} {nodes : List ℕ} where
   either (Drive c) nodes' t = inl (record { frame = drive t.0; holds = t.1; line = ap Drive t.2; left = t.3 })
   either Wrong nodes' t = inr (record { none = t.0; line = refl; left = t.1 })
 
-  told-one :
+  told_one :
       (one : (f g : Frame) → P f → P g → f ≡ g) {told told' : Line} {a b : List ℕ} → ToldFrame P told nodes a ⊎ ToldNone P told nodes a →
       ToldFrame P told' nodes b ⊎ ToldNone P told' nodes b → (told ≡ told') × (a ≡ b)
-  told-one one (inl x) (inl y) =
+  told_one one (inl x) (inl y) =
       let e = one x.frame y.frame x.holds y.holds in
       (x.line ∙ ap line_of e ∙ sym y.line, x.left ∙ ap (λ (f : Frame). leaves f nodes) e ∙ sym y.left)
-  told-one one (inl x) (inr y) = absurd (y.none x.frame x.holds)
-  told-one one (inr x) (inl y) = absurd (x.none y.frame y.holds)
-  told-one one (inr x) (inr y) = (x.line ∙ sym y.line, x.left ∙ sym y.left)
+  told_one one (inl x) (inr y) = absurd (y.none x.frame x.holds)
+  told_one one (inr x) (inl y) = absurd (x.none y.frame y.holds)
+  told_one one (inr x) (inr y) = (x.line ∙ sym y.line, x.left ∙ sym y.left)
 
 -- two readings of one line are equal: what is told, and what the slice then holds
 pub reads_one : (line : List ℕ) (told told' : Line) (nodes a b : List ℕ) → Reads line told nodes a → Reads line told' nodes b → (told ≡ told') × (a ≡ b)
-reads_one line told told' nodes a b r s = told-one (read_one (length nodes) line) (either told a r.tells) (either told' b s.tells)
+reads_one line told told' nodes a b r s = told_one (read_one (length nodes) line) (either told a r.tells) (either told' b s.tells)

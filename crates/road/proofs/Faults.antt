@@ -17,7 +17,7 @@ use Rattle.road.specs.Roads.{nodes_of, Owns, road}
 use Rattle.road.specs.workings.Sound.{Sized, Rising, Listed, Sorted, Sound}
 use Rattle.road.specs.Faults.{BadSizes, few_starts, many_starts, unlike, many_heads, many_weights, BadStarts, first, falls, last, HeadOutside, HeadIsTail, HeadFalls, TooHeavy, arc_faults, ArcFault, graph_faults, BadSetSize, empty, many, BadK, NoNode, InSet, NotInSet, BadSet, Unlike}
 use Rattle.road.proofs.Refusals.{of_single, of_number, first_one, first_not_none, none_if_no_first, untold, unheld}
-use Rattle.road.proofs.Rows.{owner_node, owned-listed}
+use Rattle.road.proofs.Rows.{owner_node, owned_listed}
 
 -- a number that is not over a bound is under it
 under_by : {a b : ℕ} → Dec (b < a) → (b < a → ⊥) → a ≤ b
@@ -84,12 +84,12 @@ rising_of starts heads n =
     }
 
 module _ (L : Limits) (starts heads weights : List ℕ) where
-  pub sizes-clear : Sized L starts heads weights → BadSizes L starts heads weights → ⊥
-  sizes-clear g (few_starts h) = omega (arith, g.least)
-  sizes-clear g (many_starts h) = omega (arith, g.most)
-  sizes-clear g (unlike h) = h g.alike
-  sizes-clear g (many_heads h) = omega (arith, g.few)
-  sizes-clear g (many_weights h) = omega (arith, g.few, g.alike)
+  pub sizes_clear : Sized L starts heads weights → BadSizes L starts heads weights → ⊥
+  sizes_clear g (few_starts h) = omega (arith, g.least)
+  sizes_clear g (many_starts h) = omega (arith, g.most)
+  sizes_clear g (unlike h) = h g.alike
+  sizes_clear g (many_heads h) = omega (arith, g.few)
+  sizes_clear g (many_weights h) = omega (arith, g.few, g.alike)
 
   pub sized_of : (BadSizes L starts heads weights → ⊥) → Sized L starts heads weights
   sized_of n =
@@ -104,14 +104,14 @@ module _ (L : Limits) (starts heads weights : List ℕ) where
   listed_of s r = record { least = s.least; alike = s.alike; rising = r }
 
   -- an arc without fault
-  pub arc-clear :
+  pub arc_clear :
       (p : ℕ) → (HeadOutside starts heads p → ⊥) → (HeadIsTail starts heads p → ⊥) → (HeadFalls starts heads p → ⊥) → (TooHeavy L weights p → ⊥) →
       None (arc_faults L starts heads weights p)
-  arc-clear p a b c d = (untold a, (untold b, (untold c, (untold d, tt))))
+  arc_clear p a b c d = (untold a, (untold b, (untold c, (untold d, tt))))
 
   -- no first bad arc: no bad arc
-  pub arcs-clear : ((r : Refusal) → ArcFault L starts heads weights r → ⊥) → (p : ℕ) → p < length heads → None (arc_faults L starts heads weights p)
-  arcs-clear n p h =
+  pub arcs_clear : ((r : Refusal) → ArcFault L starts heads weights r → ⊥) → (p : ℕ) → p < length heads → None (arc_faults L starts heads weights p)
+  arcs_clear n p h =
       none_if_no_first (arc_faults L starts heads weights p)
       (λ r f. n r (record { place = p; listed = h; here = f; before = λ q l. up_to p q (omega arith) l }))
     where
@@ -127,28 +127,28 @@ module _ (L : Limits) (starts heads weights : List ℕ) where
           by (no d) before = before q (omega arith) (omega (arith, d))
 
   -- a graph without fault is well formed
-  pub sound-of : None (graph_faults L starts heads weights) → Sound L starts heads weights
-  sound-of n =
+  pub sound_of : None (graph_faults L starts heads weights) → Sound L starts heads weights
+  sound_of n =
       let sz = sized_of (unheld n.0) in
       let ri = rising_of starts heads (unheld n.1.0) in
-      let clear = arcs-clear n.1.1.0 in
+      let clear = arcs_clear n.1.1.0 in
       record {
         sized = sz;
         rising = ri;
         inside = λ p h. not_over (suc (get_or heads p 0)) (nodes_of starts) (λ l. unheld (clear p h).0 (record { outside = omega arith }));
-        unlooped = λ u p o e. unheld (clear p (owned-listed starts heads ri u p o)).1.0 (record { tail = u; owned = o; same = e });
+        unlooped = λ u p o e. unheld (clear p (owned_listed starts heads ri u p o)).1.0 (record { tail = u; owned = o; same = e });
         ascends =
             λ u p o q.
             not_over (suc (get_or heads p 0)) (get_or heads (p + 1) 0)
-            (λ l. unheld (clear (p + 1) (owned-listed starts heads ri u (p + 1) q)).1.1.0
+            (λ l. unheld (clear (p + 1) (owned_listed starts heads ri u (p + 1) q)).1.1.0
             (record { tail = u; former = p; next = refl; before = o; owned = q; falls = omega arith }));
         light = λ p h. not_over (get_or weights p 0) L.weight (λ l. unheld (clear p h).1.1.1.0 (record { over = l }));
       }
 
   -- and a well-formed graph is without fault
-  arc-sound : Sound L starts heads weights → (p : ℕ) → p < length heads → None (arc_faults L starts heads weights p)
-  arc-sound g p h =
-      arc-clear p (λ o. omega (arith, o.outside, g.inside p h)) (λ o. g.unlooped o.tail p o.owned o.same)
+  arc_sound : Sound L starts heads weights → (p : ℕ) → p < length heads → None (arc_faults L starts heads weights p)
+  arc_sound g p h =
+      arc_clear p (λ o. omega (arith, o.outside, g.inside p h)) (λ o. g.unlooped o.tail p o.owned o.same)
       (λ o. falling o)
       (λ o. omega (arith, o.over, g.light p h))
     where
@@ -157,56 +157,56 @@ module _ (L : Limits) (starts heads weights : List ℕ) where
           let owned : Owns starts o.tail (o.former + 1) = subst (λ (x : ℕ). Owns starts o.tail x) o.next o.owned in
           omega (arith, g.ascends o.tail o.former o.before owned, ap (λ (x : ℕ). get_or heads x 0) o.next, o.falls)
 
-  pub none-of-sound : Sound L starts heads weights → None (graph_faults L starts heads weights)
-  none-of-sound g = (
-    untold (sizes-clear g.sized),
+  pub none_of_sound : Sound L starts heads weights → None (graph_faults L starts heads weights)
+  none_of_sound g = (
+    untold (sizes_clear g.sized),
     (
       untold (starts_clear starts heads g.rising),
       (
-        (λ r f. first_not_none (arc_faults L starts heads weights f.place) r f.here (arc-sound g f.place f.listed)),
+        (λ r f. first_not_none (arc_faults L starts heads weights f.place) r f.here (arc_sound g f.place f.listed)),
         tt,
       ),
     ),
   )
 
   -- the first bad arc is one
-  arc-single : (p : ℕ) → Singles (arc_faults L starts heads weights p)
-  arc-single p = (of_single, (of_single, (of_single, (of_single, tt))))
+  arc_single : (p : ℕ) → Singles (arc_faults L starts heads weights p)
+  arc_single p = (of_single, (of_single, (of_single, (of_single, tt))))
 
-  first-place : (r s : Refusal) (f : ArcFault L starts heads weights r) (g : ArcFault L starts heads weights s) → f.place < g.place → ⊥
-  first-place r s f g h = first_not_none (arc_faults L starts heads weights f.place) r f.here (g.before f.place h)
+  first_place : (r s : Refusal) (f : ArcFault L starts heads weights r) (g : ArcFault L starts heads weights s) → f.place < g.place → ⊥
+  first_place r s f g h = first_not_none (arc_faults L starts heads weights f.place) r f.here (g.before f.place h)
 
-  pub arcs-single : Single (ArcFault L starts heads weights)
-  arcs-single = record { one = λ r s f g. by r s f g (ℕ_discrete f.place g.place) }
+  pub arcs_single : Single (ArcFault L starts heads weights)
+  arcs_single = record { one = λ r s f g. by r s f g (ℕ_discrete f.place g.place) }
     where
       by : (r s : Refusal) (f : ArcFault L starts heads weights r) (g : ArcFault L starts heads weights s) → Dec (f.place ≡ g.place) → r ≡ s
       by r s f g (yes e) =
-          first_one (arc_faults L starts heads weights g.place) r s (arc-single g.place)
+          first_one (arc_faults L starts heads weights g.place) r s (arc_single g.place)
           (subst (λ (x : ℕ). First (arc_faults L starts heads weights x) r) e f.here)
           g.here
-      by r s f g (no d) = absurd (d (omega (arith, not_over f.place g.place (first-place s r g f), not_over g.place f.place (first-place r s f g))))
+      by r s f g (no d) = absurd (d (omega (arith, not_over f.place g.place (first_place s r g f), not_over g.place f.place (first_place r s f g))))
 
-  pub graph-singles : Singles (graph_faults L starts heads weights)
-  graph-singles = (of_single, (of_single, (arcs-single, tt)))
+  pub graph_singles : Singles (graph_faults L starts heads weights)
+  graph_singles = (of_single, (of_single, (arcs_single, tt)))
 
   -- the numbers that they tell
-  pub graph-numbered : Numbered (graph_faults L starts heads weights) (1 ∷ 2 ∷ 3 ∷ [])
-  graph-numbered = (of_number, (of_number, ((λ r f. arc-number f.place r f.here), tt)))
+  pub graph_numbered : Numbered (graph_faults L starts heads weights) (1 ∷ 2 ∷ 3 ∷ [])
+  graph_numbered = (of_number, (of_number, ((λ r f. arc_number f.place r f.here), tt)))
     where
-      arc-number : (p : ℕ) (r : Refusal) → First (arc_faults L starts heads weights p) r → number_of r ≡ 3
-      arc-number p r =
+      arc_number : (p : ℕ) (r : Refusal) → First (arc_faults L starts heads weights p) r → number_of r ≡ 3
+      arc_number p r =
           ⊎_elim (of_number r) (λ f. ⊎_elim (of_number r) (λ g. ⊎_elim (of_number r) (λ h. ⊎_elim (of_number r) (λ i. absurd i.1) h.1) g.1) f.1)
 
   -- what a well-formed graph means joins nodes, by steps within the limit
-  pub road-proper : Sound L starts heads weights → Proper (road starts heads weights)
-  road-proper g =
+  pub road_proper : Sound L starts heads weights → Proper (road starts heads weights)
+  road_proper g =
       record {
         tail = λ {u} {v} {w} a. owner_node starts u a.place a.owned;
         head = λ {u} {v} {w} a. omega (arith, g.inside a.place a.listed, a.head);
       }
 
-  pub road-lighter : Sound L starts heads weights → Lighter (road starts heads weights) L.weight
-  road-lighter g = record { light = λ {u} {v} {w} a. omega (arith, g.light a.place a.listed, a.weight) }
+  pub road_lighter : Sound L starts heads weights → Lighter (road starts heads weights) L.weight
+  road_lighter g = record { light = λ {u} {v} {w} a. omega (arith, g.light a.place a.listed, a.weight) }
 
   pub sorted_of : Sound L starts heads weights → Sorted starts heads
   sorted_of g = record { least = g.sized.least; rising = g.rising; ascends = g.ascends }

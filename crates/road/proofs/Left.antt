@@ -12,7 +12,7 @@ use Rattle.road.specs.Limits.{most_k, most_nodes, road_limits}
 use Rattle.road.specs.Refusals.{None}
 use Rattle.road.specs.Roads.{nodes_of}
 use Rattle.road.specs.workings.Left.{OfK, SetOf, CoverLeft, RoadAndSetLeft, LoneSetLeft, DriveLeft}
-use Rattle.road.proofs.Faults.{sound-of, not_over, not_unlike}
+use Rattle.road.proofs.Faults.{sound_of, not_over, not_unlike}
 use Rattle.road.proofs.Orders.{permuted}
 use Rattle.road.proofs.Refusals.{none_front, none_back, unheld}
 
@@ -29,26 +29,26 @@ set_left n set f = record { bytes = not_unlike (length set) n (λ u. f (BadSet.u
     by v (yes h) (no z) (no o) = absurd (f (BadSet.other v h z o))
 
 module _ (starts heads weights : List ℕ) where
-  pub cover-left : (k : ℕ) (order : List ℕ) → None (cover_faults starts heads weights k order) → CoverLeft starts heads weights k order
-  cover-left k order n =
+  pub cover_left : (k : ℕ) (order : List ℕ) → None (cover_faults starts heads weights k order) → CoverLeft starts heads weights k order
+  cover_left k order n =
       let own = none_back (graph_faults road_limits starts heads weights) (k_fault k ∷ order_fault (nodes_of starts) order ∷ []) n in
       record {
-        sound = sound-of road_limits starts heads weights (none_front (graph_faults road_limits starts heads weights) (k_fault k ∷ order_fault (nodes_of starts) order ∷ []) n);
+        sound = sound_of road_limits starts heads weights (none_front (graph_faults road_limits starts heads weights) (k_fault k ∷ order_fault (nodes_of starts) order ∷ []) n);
         k_right = k_left k (unheld own.0);
         order_right = permuted (nodes_of starts) order (unheld own.1.0);
       }
 
-  pub road-and-set-left : (set : List ℕ) → None (road_and_set_faults starts heads weights set) → RoadAndSetLeft starts heads weights set
-  road-and-set-left set n =
+  pub road_and_set_left : (set : List ℕ) → None (road_and_set_faults starts heads weights set) → RoadAndSetLeft starts heads weights set
+  road_and_set_left set n =
       record {
-        sound = sound-of road_limits starts heads weights (none_front (graph_faults road_limits starts heads weights) (set_fault (nodes_of starts) set ∷ []) n);
+        sound = sound_of road_limits starts heads weights (none_front (graph_faults road_limits starts heads weights) (set_fault (nodes_of starts) set ∷ []) n);
         set_right = set_left (nodes_of starts) set (unheld (none_back (graph_faults road_limits starts heads weights) (set_fault (nodes_of starts) set ∷ []) n).0);
       }
 
-  pub drive-left : (set drive : List ℕ) → None (drive_faults starts heads weights set drive) → DriveLeft starts heads weights set drive
-  drive-left set drive n =
+  pub drive_left : (set drive : List ℕ) → None (drive_faults starts heads weights set drive) → DriveLeft starts heads weights set drive
+  drive_left set drive n =
       record {
-        road_and_set = road-and-set-left set (none_front (road_and_set_faults starts heads weights set) (drive_fault starts heads drive ∷ []) n);
+        road_and_set = road_and_set_left set (none_front (road_and_set_faults starts heads weights set) (drive_fault starts heads drive ∷ []) n);
         drive_right = unheld (none_back (road_and_set_faults starts heads weights set) (drive_fault starts heads drive ∷ []) n).0;
       }
 

@@ -50,27 +50,27 @@ mark_none n order =
     }
 
 module _ (n : ℕ) (order : List ℕ) (i : ℕ) (seen : List ℕ) (m : Marked n order i seen) (node : get_or order i 0 < n) (small : n ≤ 4096) where
-  new-marks : List ℕ
-  new-marks = set seen (get_or order i 0) 1
+  new_marks : List ℕ
+  new_marks = set seen (get_or order i 0) 1
 
-  still_marked : (v : ℕ) → get_or seen v 0 ≢ 0 → get_or new-marks v 0 ≢ 0
-  unfolding new-marks
+  still_marked : (v : ℕ) → get_or seen v 0 ≢ 0 → get_or new_marks v 0 ≢ 0
+  unfolding new_marks
   still_marked v h = by (ℕ_discrete v (get_or order i 0))
     where
       by : Dec (v ≡ get_or order i 0) → get_or (set seen (get_or order i 0) 1) v 0 ≢ 0
       by (yes e) = λ z. omega (arith, get_or-set_same seen (get_or order i 0) 1 0 (omega (arith, m.long)), ap (λ (y : ℕ). get_or (set seen (get_or order i 0) 1) y 0) e)
       by (no d) = λ z. h (sym (get_or-set_other seen (get_or order i 0) v 1 0 d) ∙ z)
 
-  pub mark-more : i < length order → get_or seen (get_or order i 0) 0 ≡ 0 → Marked n order (i + 1) (set seen (get_or order i 0) 1)
-  unfolding new-marks
-  mark-more h fresh =
+  pub mark_more : i < length order → get_or seen (get_or order i 0) 0 ≡ 0 → Marked n order (i + 1) (set seen (get_or order i 0) 1)
+  unfolding new_marks
+  mark_more h fresh =
       record {
         long = length-set seen (get_or order i 0) 1 ∙ m.long;
         within = omega arith;
         nodes = below_more (λ (j : ℕ). get_or order j 0 < n) i m.nodes node;
         apart = λ j k a b. by_last j k a (ℕ_discrete k i) b;
         marked = below_more (λ (j : ℕ). get_or (set seen (get_or order i 0) 1) (get_or order j 0) 0 ≢ 0) i (λ j l. still_marked (get_or order j 0) (m.marked j l)) here;
-        met = λ v z. by-node v (ℕ_discrete v (get_or order i 0)) z;
+        met = λ v z. by_node v (ℕ_discrete v (get_or order i 0)) z;
       }
     where
       here : get_or (set seen (get_or order i 0) 1) (get_or order i 0) 0 ≢ 0
@@ -80,9 +80,9 @@ module _ (n : ℕ) (order : List ℕ) (i : ℕ) (seen : List ℕ) (m : Marked n 
       by_last j k a (yes e) b s = m.marked j (omega arith) (ap (λ (y : ℕ). get_or seen y 0) (s ∙ ap (λ (y : ℕ). get_or order y 0) e) ∙ fresh)
       by_last j k a (no d) b s = m.apart j k a (omega (arith, d)) s
 
-      by-node : (v : ℕ) → Dec (v ≡ get_or order i 0) → get_or (set seen (get_or order i 0) 1) v 0 ≢ 0 → (j : ℕ) × (j < i + 1) × (get_or order j 0 ≡ v)
-      by-node v (yes e) z = (i, omega arith, sym e)
-      by-node v (no d) z =
+      by_node : (v : ℕ) → Dec (v ≡ get_or order i 0) → get_or (set seen (get_or order i 0) 1) v 0 ≢ 0 → (j : ℕ) × (j < i + 1) × (get_or order j 0 ≡ v)
+      by_node v (yes e) z = (i, omega arith, sym e)
+      by_node v (no d) z =
           let old = m.met v (λ w. z (get_or-set_other seen (get_or order i 0) v 1 0 d ∙ w)) in
           (old.0, omega (arith, old.1), old.2)
 

@@ -110,29 +110,29 @@ refusal_of : {r s : Refusal} → Refused r ≡ Refused s → r ≡ s
 refusal_of e = cc
 
 module _ {Fs : List Fault} where
-  pub judges-passed : None Fs → Judges Fs Passed
-  judges-passed n = record { passed = λ e. n; refused = λ r e. absurd (not_both refl e) }
+  pub judges_passed : None Fs → Judges Fs Passed
+  judges_passed n = record { passed = λ e. n; refused = λ r e. absurd (not_both refl e) }
 
-  pub judges-refused : {r : Refusal} → First Fs r → Judges Fs (Refused r)
-  judges-refused f = record { passed = λ e. absurd (not_both e refl); refused = λ s e. subst (First Fs) (refusal_of e) f }
+  pub judges_refused : {r : Refusal} → First Fs r → Judges Fs (Refused r)
+  judges_refused f = record { passed = λ e. absurd (not_both e refl); refused = λ s e. subst (First Fs) (refusal_of e) f }
 
   -- so two verdicts on one list are equal
-  pub judges-one : Singles Fs → (v w : Verdict) → Judges Fs v → Judges Fs w → v ≡ w
-  judges-one o Passed Passed f g = refl
-  judges-one o Passed (Refused s) f g = absurd (first_not_none Fs s (g.refused s refl) (f.passed refl))
-  judges-one o (Refused r) Passed f g = absurd (first_not_none Fs r (f.refused r refl) (g.passed refl))
-  judges-one o (Refused r) (Refused s) f g = ap Refused (first_one Fs r s o (f.refused r refl) (g.refused s refl))
+  pub judges_one : Singles Fs → (v w : Verdict) → Judges Fs v → Judges Fs w → v ≡ w
+  judges_one o Passed Passed f g = refl
+  judges_one o Passed (Refused s) f g = absurd (first_not_none Fs s (g.refused s refl) (f.passed refl))
+  judges_one o (Refused r) Passed f g = absurd (first_not_none Fs r (f.refused r refl) (g.passed refl))
+  judges_one o (Refused r) (Refused s) f g = ap Refused (first_one Fs r s o (f.refused r refl) (g.refused s refl))
 
 module _ {F : Fault} where
-  pub judged-passed : ((s : Refusal) → F s → ⊥) → Judged F Passed
-  judged-passed n = record { passed = λ e. n; refused = λ r e. absurd (not_both refl e) }
+  pub judged_passed : ((s : Refusal) → F s → ⊥) → Judged F Passed
+  judged_passed n = record { passed = λ e. n; refused = λ r e. absurd (not_both refl e) }
 
-  pub judged-refused : {r : Refusal} → F r → Judged F (Refused r)
-  judged-refused f = record { passed = λ e. absurd (not_both e refl); refused = λ s e. subst F (refusal_of e) f }
+  pub judged_refused : {r : Refusal} → F r → Judged F (Refused r)
+  judged_refused f = record { passed = λ e. absurd (not_both e refl); refused = λ s e. subst F (refusal_of e) f }
 
   -- a verdict on one fault is one on a list of it alone
-  pub judged-alone : {v : Verdict} → Judged F v → Judges (F ∷ []) v
-  judged-alone j = record { passed = λ e. (j.passed e, tt); refused = λ r e. inl (j.refused r e) }
+  pub judged_alone : {v : Verdict} → Judged F v → Judges (F ∷ []) v
+  judged_alone j = record { passed = λ e. (j.passed e, tt); refused = λ r e. inl (j.refused r e) }
 
 -- the fault P, which refusal r tells
 module _ {r : Refusal} {P : Type 0} where
@@ -148,10 +148,10 @@ module _ {r : Refusal} {P : Type 0} where
   told p = record { is = refl; holds = p }
 
   pub refuses : P → Judged (Of r P) (Refused r)
-  refuses p = judged-refused (told p)
+  refuses p = judged_refused (told p)
 
   pub passes : (P → ⊥) → Judged (Of r P) Passed
-  passes n = judged-passed (untold n)
+  passes n = judged_passed (untold n)
 
 -- a chain of checks
 pub first_early : (Fs Gs : List Fault) (r : Refusal) → First Fs r → First (Fs ++ Gs) r

@@ -19,31 +19,31 @@ owner_node starts u p o = by (dec_lt (u + 1) (length starts))
 
 module _ (starts heads : List ℕ) (g : Rising starts heads) where
   -- starts do not fall over any distance
-  pub starts-rise : (u v : ℕ) → u ≤ v → v < length starts → get_or starts u 0 ≤ get_or starts v 0
-  starts-rise u v h below = le_ind (λ (x : ℕ). x < length starts → get_or starts u 0 ≤ get_or starts x 0) (λ _. omega arith) more v h below
+  pub starts_rise : (u v : ℕ) → u ≤ v → v < length starts → get_or starts u 0 ≤ get_or starts v 0
+  starts_rise u v h below = le_ind (λ (x : ℕ). x < length starts → get_or starts u 0 ≤ get_or starts x 0) (λ _. omega arith) more v h below
     where
       more : (x : ℕ) → u ≤ x → (x < length starts → get_or starts u 0 ≤ get_or starts x 0) → suc x < length starts → get_or starts u 0 ≤ get_or starts (suc x) 0
       more x le before b = omega (arith, before (omega arith), g.rises x (omega arith), ap (λ (y : ℕ). get_or starts y 0) (add-one x))
 
   -- a place that a tail owns is one of the heads'
-  pub owned-listed : (u p : ℕ) → Owns starts u p → p < length heads
-  owned-listed u p o =
+  pub owned_listed : (u p : ℕ) → Owns starts u p → p < length heads
+  owned_listed u p o =
       let node = owner_node starts u p o in
-      omega (arith, o.below, g.ends, starts-rise (u + 1) (nodes_of starts) (omega arith) (omega arith))
+      omega (arith, o.below, g.ends, starts_rise (u + 1) (nodes_of starts) (omega arith) (omega arith))
 
   -- the rows of two tails have no place in common
-  owner-le : (u v p : ℕ) → Owns starts u p → Owns starts v p → u ≤ v
-  owner-le u v p o q = by (dec_le u v)
+  owner_le : (u v p : ℕ) → Owns starts u p → Owns starts v p → u ≤ v
+  owner_le u v p o q = by (dec_le u v)
     where
       by : Dec (u ≤ v) → u ≤ v
       by (yes h) = h
       by (no n) =
           let node = owner_node starts u p o in
           let apart : v + 1 ≤ u = omega (arith, n) in
-          absurd (omega (arith, o.from, q.below, starts-rise (v + 1) u apart (omega arith)))
+          absurd (omega (arith, o.from, q.below, starts_rise (v + 1) u apart (omega arith)))
 
-  pub owner-one : (u v p : ℕ) → Owns starts u p → Owns starts v p → u ≡ v
-  owner-one u v p o q = omega (arith, owner-le u v p o q, owner-le v u p q o)
+  pub owner_one : (u v p : ℕ) → Owns starts u p → Owns starts v p → u ≡ v
+  owner_one u v p o q = omega (arith, owner_le u v p o q, owner_le v u p q o)
 
   -- every place of the heads has a tail
   pub owner_of : (p : ℕ) → p < length heads → (u : ℕ) × Owns starts u p

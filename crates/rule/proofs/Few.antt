@@ -9,9 +9,9 @@ use lib.Seq.{get_or-set_same, get_or-set_other}
 use Rattle.paths.specs.Graphs.{Graph, Proper}
 use Rattle.paths.specs.Lists.{Mem, Different, Each}
 use Rattle.paths.proofs.Lists.{each_mem, mem_each}
-use Rattle.paths.proofs.Weights.{nodes-of}
+use Rattle.paths.proofs.Weights.{nodes_of}
 use Rattle.road.specs.Counting.{times}
-use Rattle.road.proofs.Counting.{times-fewer, times_set}
+use Rattle.road.proofs.Counting.{times_fewer, times_set}
 use Rattle.rule.specs.Rule.{Dropped, Needed, PathOf}
 
 -- different nodes that are dropped are no more than the zeros
@@ -21,7 +21,7 @@ Zero cover x = (x < length cover) × Dropped cover x
 zeros_enough : (l cover : List ℕ) → Different l → Each (Zero cover) l → length l ≤ times 0 cover
 zeros_enough [] cover d e = omega arith
 zeros_enough (x ∷ l) cover d e =
-    omega (arith, zeros_enough l (set cover x 1) d.1 (mem_each (Zero (set cover x 1)) l still), times-fewer cover x 1 0 e.0.0 e.0.1 (λ z. omega arith))
+    omega (arith, zeros_enough l (set cover x 1) d.1 (mem_each (Zero (set cover x 1)) l still), times_fewer cover x 1 0 e.0.0 e.0.1 (λ z. omega arith))
   where
     still : (y : ℕ) → Mem y l → Zero (set cover x 1) y
     still y m =
@@ -32,8 +32,8 @@ zeros_enough (x ∷ l) cover d e =
 
 module _ (G : Graph) (p : Proper G) (k : ℕ) (cover : List ℕ) (v : ℕ) (long : length cover ≡ G.nodes) (node : v < length cover) where
   -- a path of k nodes, v and dropped ones, takes k - 1 dropped ones
-  pub few-unneeded : times 0 cover + 1 < k → Needed (PathOf G k) cover v → ⊥
-  few-unneeded few n =
+  pub few_unneeded : times 0 cover + 1 < k → Needed (PathOf G k) cover v → ⊥
+  few_unneeded few n =
       let c = n.counts in
       let size : length (c.first ∷ c.after) ≡ k = ap length (sym c.whole) ∙ c.nodes in
       omega (
@@ -53,7 +53,7 @@ module _ (G : Graph) (p : Proper G) (k : ℕ) (cover : List ℕ) (v : ℕ) (long
           arith,
           long,
           length-set cover v 0,
-          each_mem (λ (y : ℕ). y < G.nodes) x (n.counts.first ∷ n.counts.after) (nodes-of p n.counts.path.node n.counts.path.along) m,
+          each_mem (λ (y : ℕ). y < G.nodes) x (n.counts.first ∷ n.counts.after) (nodes_of p n.counts.path.node n.counts.path.along) m,
         ),
         by x (subst (Mem x) (sym n.counts.whole) m) (ℕ_discrete x v),
       )

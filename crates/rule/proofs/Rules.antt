@@ -60,12 +60,12 @@ all_bits n = record { bit = λ v. by v (dec_lt v n) }
 
 module _ {Counts : List ℕ → Type 0} where
   -- two covers that the rule yields are equal
-  pub prunes-one : {order cover left other : List ℕ} → Prunes Counts order cover left → Prunes Counts order cover other → left ≡ other
-  prunes-one done done = refl
-  prunes-one (keep n p) (keep m q) = prunes-one p q
-  prunes-one (keep n p) (drop m q) = absurd (m n)
-  prunes-one (drop n p) (keep m q) = absurd (n m)
-  prunes-one (drop n p) (drop m q) = prunes-one p q
+  pub prunes_one : {order cover left other : List ℕ} → Prunes Counts order cover left → Prunes Counts order cover other → left ≡ other
+  prunes_one done done = refl
+  prunes_one (keep n p) (keep m q) = prunes_one p q
+  prunes_one (keep n p) (drop m q) = absurd (m n)
+  prunes_one (drop n p) (keep m q) = absurd (n m)
+  prunes_one (drop n p) (drop m q) = prunes_one p q
 
   -- what is dropped stays dropped
   pub stays : {order cover left : List ℕ} → Prunes Counts order cover left → (x : ℕ) → Dropped cover x → Dropped left x
@@ -78,14 +78,14 @@ module _ {Counts : List ℕ → Type 0} where
   as_long (keep n p) = as_long p
   as_long (drop {v = v} {cover = cover} n p) = as_long p ∙ length-set cover v 0
 
-  pub still-bits : {order cover left : List ℕ} → Prunes Counts order cover left → Bits cover → Bits left
-  still-bits done b = b
-  still-bits (keep n p) b = still-bits p b
-  still-bits (drop {v = v} {cover = cover} n p) b = still-bits p (bits_now cover v b)
+  pub still_bits : {order cover left : List ℕ} → Prunes Counts order cover left → Bits cover → Bits left
+  still_bits done b = b
+  still_bits (keep n p) b = still_bits p b
+  still_bits (drop {v = v} {cover = cover} n p) b = still_bits p (bits_now cover v b)
 
   -- dropping a node that is not needed leaves every path that counts with a point
-  still-meets : (cover : List ℕ) (v : ℕ) → Bits cover → (Needed Counts cover v → ⊥) → Covers Counts cover → Covers Counts (set cover v 0)
-  still-meets cover v b n c = record { meets = λ l h. by l h (c.meets l h) (other_point cover b v l) }
+  still_meets : (cover : List ℕ) (v : ℕ) → Bits cover → (Needed Counts cover v → ⊥) → Covers Counts cover → Covers Counts (set cover v 0)
+  still_meets cover v b n c = record { meets = λ l h. by l h (c.meets l h) (other_point cover b v l) }
     where
       found : (l : List ℕ) (x : ℕ) → Mem x l → InSet cover x → x ≢ v → (w : ℕ) × Mem w l × InSet (set cover v 0) w
       found l x m i d = (x, m, get_or-set_other cover v x 0 0 d ∙ i)
@@ -100,10 +100,10 @@ module _ {Counts : List ℕ → Type 0} where
           at (yes e) = absurd (n (record { path = l; counts = h; on = subst (λ (y : ℕ). Mem y l) e p.1; others = f }))
           at (no d) = found l p.0 p.1 p.2 d
 
-  still-covers : {order cover left : List ℕ} → Prunes Counts order cover left → Bits cover → Covers Counts cover → Covers Counts left
-  still-covers done b c = c
-  still-covers (keep n p) b c = still-covers p b c
-  still-covers (drop {v = v} {cover = cover} n p) b c = still-covers p (bits_now cover v b) (still-meets cover v b n c)
+  still_covers : {order cover left : List ℕ} → Prunes Counts order cover left → Bits cover → Covers Counts cover → Covers Counts left
+  still_covers done b c = c
+  still_covers (keep n p) b c = still_covers p b c
+  still_covers (drop {v = v} {cover = cover} n p) b c = still_covers p (bits_now cover v b) (still_meets cover v b n c)
 
   -- a node that was taken and is left has a path to itself
   left_alone : {order cover left : List ℕ} → Prunes Counts order cover left → (v : ℕ) → Mem v order → InSet left v → Alone Counts left v
@@ -131,11 +131,11 @@ module _ {Counts : List ℕ → Type 0} {n : ℕ} {order cover : List ℕ} (p : 
   -- the first half of demand 2
   pub covers : Nodes Counts n → Covers Counts cover
   covers f =
-      still-covers p (all_bits n)
+      still_covers p (all_bits n)
       (record { meets = λ l h. let v = f.node l h in (v.0, v.1, get_or-replicate n v.0 1 0 v.2) })
 
-  pub node-of-point : (v : ℕ) → InSet cover v → v < n
-  node-of-point v i = by (dec_lt v n)
+  pub node_of_point : (v : ℕ) → InSet cover v → v < n
+  node_of_point v i = by (dec_lt v n)
     where
       by : Dec (v < n) → v < n
       by (yes h) = h
@@ -143,7 +143,7 @@ module _ {Counts : List ℕ → Type 0} {n : ℕ} {order cover : List ℕ} (p : 
 
   -- the second half
   pub tight : Permutation n order → Tight Counts cover
-  tight q = record { alone = λ v i. left_alone p v (q.all v (node-of-point v i)) i }
+  tight q = record { alone = λ v i. left_alone p v (q.all v (node_of_point v i)) i }
 
 -- the same paths count: the same cover
 pub same_paths :

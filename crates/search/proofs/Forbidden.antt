@@ -21,9 +21,9 @@ module _ (w : ℕ) (blocked labels : List ℕ) (r : Row (road (0 ∷ 1 ∷ 1 ∷
       }
 
   -- it ends while a node still waits
-  pub still-waiting : label_at labels 1 ≡ 0 → ⊥
-  still-waiting e = ((r.told 1 (omega arith)).none e).none (w + 0) path
+  pub still_waiting : label_at labels 1 ≡ 0 → ⊥
+  still_waiting e = ((r.told 1 (omega arith)).none e).none (w + 0) path
 
   -- another number is added for the arc's weight, a larger one
-  pub other-weight : (d : ℕ) → label_at labels 1 ≡ suc (w + suc d) → ⊥
-  other-weight d e = omega (arith, ((r.told 1 (omega arith)).some (w + suc d) e).least (w + 0) path)
+  pub other_weight : (d : ℕ) → label_at labels 1 ≡ suc (w + suc d) → ⊥
+  other_weight d e = omega (arith, ((r.told 1 (omega arith)).some (w + suc d) e).least (w + 0) path)

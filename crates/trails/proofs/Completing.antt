@@ -9,14 +9,14 @@ use lib.ListN.{length, get_or, length-reverse_aux}
 use Rattle.paths.specs.Graphs.{Graph, turned, Along, stop, step}
 use Rattle.paths.specs.Lists.{Mem, Different, Each}
 use Rattle.paths.proofs.Lists.{mem_left, mem_right, mem_cases, each_mem, mem_onto, onto_mem}
-use Rattle.paths.proofs.Turned.{Back, back-onto, different_onto, turned-proper}
-use Rattle.paths.proofs.Ways.{end-node}
+use Rattle.paths.proofs.Turned.{Back, back_onto, different_onto, turned_proper}
+use Rattle.paths.proofs.Ways.{end_node}
 use Rattle.road.specs.declared.Limits.{Limits}
 use Rattle.road.specs.Drives.{Joined}
 use Rattle.road.specs.workings.Verdicts.{Tells}
 use Rattle.road.specs.Roads.{nodes_of, Arc, road}
 use Rattle.road.specs.workings.Sound.{Sound, TurnedRound}
-use Rattle.road.proofs.Faults.{road-proper}
+use Rattle.road.proofs.Faults.{road_proper}
 use Rattle.rule.specs.Rule.{Dropped, Needed, PathOf}
 use Rattle.trails.proofs.Halves.{Halves, halves, halves_free}
 use Rattle.trails.specs.workings.Search.{Completes, ends, longer, NoneMissing, OutwardFrom, Outward, Inward}
@@ -115,10 +115,10 @@ module _ (L : Limits) (starts heads weights starts' heads' weights' : List ℕ) 
       after : List ℕ
       inward : Chain (Joined starts' heads') v before
       outward : Chain (Joined starts heads) v after
-      free-before : Each (Dropped cover) before
-      free-after : Each (Dropped cover) after
-      different-before : Different (v ∷ before)
-      different-after : Different after
+      free_before : Each (Dropped cover) before
+      free_after : Each (Dropped cover) after
+      different_before : Different (v ∷ before)
+      different_after : Different after
       apart : (x : ℕ) → Mem x (v ∷ before) → Mem x after → ⊥
       long : length before + length after + 1 ≡ k
 
@@ -135,24 +135,24 @@ module _ (L : Limits) (starts heads weights starts' heads' weights' : List ℕ) 
                   after = s.after;
                   inward = r.chain;
                   outward = s.chain;
-                  free-before = r.free;
-                  free-after = s.free;
-                  different-before = ((λ h. r.new v h (inl refl)), r.different);
-                  different-after = s.different;
+                  free_before = r.free;
+                  free_after = s.free;
+                  different_before = ((λ h. r.new v h (inl refl)), r.different);
+                  different_after = s.different;
                   apart = λ x h m. s.new x m h;
                   long = omega (arith, r.long, s.long, s.end.none);
                 }
 
-    inward-of : Both → Inward starts heads starts' heads' cover v (v ∷ []) v (k - 1)
-    inward-of b =
+    inward_of : Both → Inward starts heads starts' heads' cover v (v ∷ []) v (k - 1)
+    inward_of b =
         let out : Outward starts heads cover ((v ∷ []) ++ b.before) v (length b.after + 0) =
-        completes ((v ∷ []) ++ b.before) v b.after 0 b.outward b.free-after b.different-after (λ x h m. b.apart x m h) (record { none = refl }) in
+        completes ((v ∷ []) ++ b.before) v b.after 0 b.outward b.free_after b.different_after (λ x h m. b.apart x m h) (record { none = refl }) in
         let in' : Inward starts heads starts' heads' cover v (v ∷ []) v (length b.before + (length b.after + 0)) =
-        completes (v ∷ []) v b.before (length b.after + 0) b.inward b.free-before b.different-before.1 new (record { outward = out }) in
+        completes (v ∷ []) v b.before (length b.after + 0) b.inward b.free_before b.different_before.1 new (record { outward = out }) in
         subst (Inward starts heads starts' heads' cover v (v ∷ []) v) (omega (arith, b.long)) in'
       where
         new : (x : ℕ) → Mem x b.before → Mem x (v ∷ []) → ⊥
-        new x h m = ⊎_elim (λ e. b.different-before.0 (subst (λ (y : ℕ). Mem y b.before) e h)) (λ z. z) m
+        new x h m = ⊎_elim (λ e. b.different_before.0 (subst (λ (y : ℕ). Mem y b.before) e h)) (λ z. z) m
 
     -- a complete path shows that v is needed
     needed_of : Both → Needed (PathOf G k) cover v
@@ -161,7 +161,7 @@ module _ (L : Limits) (starts heads weights starts' heads' weights' : List ℕ) 
         by :
             (e : ℕ) × (w : ℕ) × Along (turned (road starts heads weights)) v b.before e w → (e : ℕ) × (w : ℕ) × Along (road starts heads weights) v b.after e w →
             Needed (PathOf (road starts heads weights) k) cover v
-        by i o = of (back-onto {G = turned (road starts heads weights)} b.after o.0 o.1 i.2 o.2)
+        by i o = of (back_onto {G = turned (road starts heads weights)} b.after o.0 o.1 i.2 o.2)
           where
             of : Back (turned (road starts heads weights)) v b.before b.after i.0 o.0 (i.1 + o.1) → Needed (PathOf (road starts heads weights) k) cover v
             of p =
@@ -176,9 +176,9 @@ module _ (L : Limits) (starts heads weights starts' heads' weights' : List ℕ) 
                         whole = refl;
                         path =
                             record {
-                              node = end-node (turned-proper (road-proper L starts heads weights g)) node i.2;
+                              node = end_node (turned_proper (road_proper L starts heads weights g)) node i.2;
                               along = p.along;
-                              different = subst Different (sym p.list) (different_onto (v ∷ b.before) b.after b.different-before b.different-after b.apart);
+                              different = subst Different (sym p.list) (different_onto (v ∷ b.before) b.after b.different_before b.different_after b.apart);
                             };
                         nodes = ap length p.list ∙ length-reverse_aux (v ∷ b.before) b.after ∙ omega (arith, b.long);
                       };
@@ -188,12 +188,12 @@ module _ (L : Limits) (starts heads weights starts' heads' weights' : List ℕ) 
               where
                 free : (x : ℕ) → x ≢ v → Mem x (v ∷ b.before) ⊎ Mem x b.after → Dropped cover x
                 free x n (inl (inl e)) = absurd (n e)
-                free x n (inl (inr h)) = each_mem (Dropped cover) x b.before b.free-before h
-                free x n (inr h) = each_mem (Dropped cover) x b.after b.free-after h
+                free x n (inl (inr h)) = each_mem (Dropped cover) x b.before b.free_before h
+                free x n (inr h) = each_mem (Dropped cover) x b.after b.free_after h
 
     -- and where v is needed, the path can be completed
     both_of : Needed (PathOf G k) cover v → Both
-    both_of d = of (halves (road-proper L starts heads weights g) v d.counts.path (subst (Mem v) d.counts.whole d.on))
+    both_of d = of (halves (road_proper L starts heads weights g) v d.counts.path (subst (Mem v) d.counts.whole d.on))
       where
         of : Halves (road starts heads weights) v d.counts.first d.counts.after d.counts.last → Both
         of c =
@@ -203,13 +203,13 @@ module _ (L : Limits) (starts heads weights starts' heads' weights' : List ℕ) 
               after = c.after;
               inward = way_chain (turned (road starts heads weights)) (Joined starts' heads') (λ u w x a. joined_of (t.turns w u x a)) c.to.along;
               outward = way_chain (road starts heads weights) (Joined starts heads) (λ u w x a. joined_of a) c.from.along;
-              free-before = free.0;
-              free-after = free.1;
-              different-before = c.to.different;
-              different-after = c.from.different.1;
+              free_before = free.0;
+              free_after = free.1;
+              different_before = c.to.different;
+              different_after = c.from.different.1;
               apart = c.apart;
               long = omega (arith, c.long, ap length d.counts.whole, d.counts.nodes);
             }
 
-    pub needed-told : {b : Bool} → Tells b (Inward starts heads starts' heads' cover v (v ∷ []) v (k - 1)) → Tells b (Needed (PathOf (road starts heads weights) k) cover v)
-    needed-told t = record { yes = λ e. needed_of (both (t.yes e)); no = λ e d. t.no e (inward-of (both_of d)) }
+    pub needed_told : {b : Bool} → Tells b (Inward starts heads starts' heads' cover v (v ∷ []) v (k - 1)) → Tells b (Needed (PathOf (road starts heads weights) k) cover v)
+    needed_told t = record { yes = λ e. needed_of (both (t.yes e)); no = λ e d. t.no e (inward_of (both_of d)) }

@@ -14,7 +14,7 @@ use Rattle.road.specs.workings.Verdicts.{Tells}
 use Rattle.road.specs.declared.Limits.{Limits}
 use Rattle.road.specs.Roads.{nodes_of, Owns}
 use Rattle.road.specs.workings.Sound.{Rising, Sound}
-use Rattle.road.proofs.Rows.{owned-listed}
+use Rattle.road.proofs.Rows.{owned_listed}
 use Rattle.rule.specs.Rule.{Dropped}
 use Rattle.trails.specs.workings.Search.{Completes, ends, longer, NoneMissing, Outward, OutwardFrom, FreeNode, Longest, Larger, Within, Searchable}
 
@@ -39,14 +39,14 @@ pub record Tried (End : List ℕ → ℕ → Type 0) (starts heads cover on : Li
       Completes (Joined starts heads) (Dropped cover) End (on ++ (get_or heads j 0 ∷ [])) (get_or heads j 0) m → ⊥
 
 module _ (End : List ℕ → ℕ → Type 0) (starts heads cover on : List ℕ) where
-  pub tried-none : (m i : ℕ) → Tried End starts heads cover on m i i
-  tried-none m i = record { nowhere = λ j h l f r. omega arith }
+  pub tried_none : (m i : ℕ) → Tried End starts heads cover on m i i
+  tried_none m i = record { nowhere = λ j h l f r. omega arith }
 
-  pub tried-more :
+  pub tried_more :
       (m i k : ℕ) → Tried End starts heads cover on m k i →
       (FreeNode cover on (get_or heads i 0) → Completes (Joined starts heads) (Dropped cover) End (on ++ (get_or heads i 0 ∷ [])) (get_or heads i 0) m → ⊥) →
       Tried End starts heads cover on m k (i + 1)
-  tried-more m i k t n =
+  tried_more m i k t n =
       record {
         nowhere =
             λ j h l.
@@ -63,15 +63,15 @@ module _ (End : List ℕ → ℕ → Type 0) (starts heads cover on : List ℕ) 
         Completes (Joined starts heads) (Dropped cover) End on a m
     leads i h l f r =
         let owned : Owns starts a i = record { from = h; below = l } in
-        let next : Joined starts heads a (get_or heads i 0) = record { place = i; listed = owned-listed starts heads g a i owned; owned = owned; head = refl } in
+        let next : Joined starts heads a (get_or heads i 0) = record { place = i; listed = owned_listed starts heads g a i owned; owned = owned; head = refl } in
         let same : suc (m - 1) ≡ m = omega (arith, some) in
         subst (λ (x : ℕ). Completes (Joined starts heads) (Dropped cover) End on a x) same (longer (get_or heads i 0) next f.dropped f.new r)
 
     -- all arcs lead nowhere, and the path is not complete at this end
-    pub none-leads :
+    pub none_leads :
         Tried End starts heads cover on (m - 1) (get_or starts a 0) (get_or starts (a + 1) 0) → (End on m → ⊥) →
         Completes (Joined starts heads) (Dropped cover) End on a m → ⊥
-    none-leads t n c = by (apart c)
+    none_leads t n c = by (apart c)
       where
         by : End on m ⊎ Longer (Joined starts heads) (Dropped cover) End on a m → ⊥
         by (inl e) = n e
@@ -85,20 +85,20 @@ module _ (End : List ℕ → ℕ → Type 0) (starts heads cover on : List ℕ) 
             (subst (λ (x : ℕ). Completes (Joined starts heads) (Dropped cover) End (on ++ (x ∷ [])) x w.left) e w.rest))
 
     -- so the answer at this end is the answer
-    pub last-resort :
+    pub last_resort :
         {b : Bool} → Tried End starts heads cover on (m - 1) (get_or starts a 0) (get_or starts (a + 1) 0) → Tells b (End on m) →
         Tells b (Completes (Joined starts heads) (Dropped cover) End on a m)
-    last-resort t u = record { yes = λ e. ends (u.yes e); no = λ e. none-leads t (u.no e) }
+    last_resort t u = record { yes = λ e. ends (u.yes e); no = λ e. none_leads t (u.no e) }
 
 pub row_bounds : (starts heads : List ℕ) (n a : ℕ) → Searchable starts heads n → a < n → a + 1 < length starts
 row_bounds starts heads n a g h = omega (arith, g.long)
 
 module _ (starts heads : List ℕ) (n a i : ℕ) (g : Searchable starts heads n) (h : get_or starts a 0 ≤ i) (l : i < get_or starts (a + 1) 0) where
-  pub place-listed : i < length heads
-  place-listed = owned-listed starts heads g.rising a i (record { from = h; below = l })
+  pub place_listed : i < length heads
+  place_listed = owned_listed starts heads g.rising a i (record { from = h; below = l })
 
-  pub head-node : get_or heads i 0 < n
-  head-node = g.inside i place-listed
+  pub head_node : get_or heads i 0 < n
+  head_node = g.inside i place_listed
 
 -- what the search found of the path with one node more, said of that node and of the nodes then on the path
 pub carried :
@@ -131,14 +131,14 @@ pub record Measured (starts heads cover on : List ℕ) (most best k i : ℕ) : T
       Outward starts heads cover (on ++ (get_or heads j 0 ∷ [])) (get_or heads j 0) m → m + 1 ≤ best
 
 module _ (starts heads cover on : List ℕ) (most : ℕ) where
-  pub measured-none : (best i : ℕ) → Measured starts heads cover on most best i i
-  measured-none best i = record { below = λ j h l f m b o. absurd (omega arith) }
+  pub measured_none : (best i : ℕ) → Measured starts heads cover on most best i i
+  measured_none best i = record { below = λ j h l f m b o. absurd (omega arith) }
 
-  pub measured-more :
+  pub measured_more :
       (best after k i : ℕ) → best ≤ after → Measured starts heads cover on most best k i →
       (FreeNode cover on (get_or heads i 0) → (m : ℕ) → m ≤ most - 1 → Outward starts heads cover (on ++ (get_or heads i 0 ∷ [])) (get_or heads i 0) m → m + 1 ≤ after) →
       Measured starts heads cover on most after k (i + 1)
-  measured-more best after k i h t n =
+  measured_more best after k i h t n =
       record {
         below =
             λ j b l.
@@ -161,26 +161,26 @@ module _ (starts heads cover on : List ℕ) (most a end : ℕ) where
       record {
         from = omega arith;
         to = h;
-        measured = subst (λ (x : ℕ). Measured starts heads cover on most 0 x i) e (measured-none starts heads cover on most 0 i);
+        measured = subst (λ (x : ℕ). Measured starts heads cover on most 0 x i) e (measured_none starts heads cover on most 0 i);
         reached = ends (record { none = refl });
         short = omega arith;
       }
 
   module _ (i best : ℕ) (b : Best starts heads cover on most a end i best) (h : i < end) where
-    pub best-missed : (FreeNode cover on (get_or heads i 0) → ⊥) → Best starts heads cover on most a end (i + 1) best
-    best-missed n =
+    pub best_missed : (FreeNode cover on (get_or heads i 0) → ⊥) → Best starts heads cover on most a end (i + 1) best
+    best_missed n =
         record {
           from = omega (arith, b.from);
           to = omega arith;
-          measured = measured-more starts heads cover on most best best (get_or starts a 0) i (omega arith) b.measured (λ f. absurd (n f));
+          measured = measured_more starts heads cover on most best best (get_or starts a 0) i (omega arith) b.measured (λ f. absurd (n f));
           reached = b.reached;
           short = b.short;
         }
 
     module _ (g : Rising starts heads) (last : end ≡ get_or starts (a + 1) 0) (some : most ≢ 0) (f : FreeNode cover on (get_or heads i 0)) (found after : ℕ)
         (l : Longest starts heads cover (on ++ (get_or heads i 0 ∷ [])) (get_or heads i 0) (most - 1) found) (w : Larger best (found + 1) after) where
-      pub best-reached : Outward starts heads cover on a after
-      best-reached = by w.one
+      pub best_reached : Outward starts heads cover on a after
+      best_reached = by w.one
         where
           fewer : found ≡ found + 1 - 1
           fewer = omega arith
@@ -192,26 +192,26 @@ module _ (starts heads cover on : List ℕ) (most a end : ℕ) where
               (leads NoneMissing starts heads cover on g a (found + 1) (λ z. omega arith) i b.from (omega arith) f
               (subst (λ (m : ℕ). Outward starts heads cover (on ++ (get_or heads i 0 ∷ [])) (get_or heads i 0) m) fewer l.reached))
 
-      pub best-short : after ≤ most
-      best-short = by w.one
+      pub best_short : after ≤ most
+      best_short = by w.one
         where
           by : (after ≡ best) ⊎ (after ≡ found + 1) → after ≤ most
           by (inl e) = omega (arith, b.short)
           by (inr e) = omega (arith, l.short, some)
 
-      pub best-met : Best starts heads cover on most a end (i + 1) after
-      best-met =
+      pub best_met : Best starts heads cover on most a end (i + 1) after
+      best_met =
           record {
             from = omega (arith, b.from);
             to = omega arith;
             measured =
-                measured-more starts heads cover on most best after (get_or starts a 0) i w.left b.measured (λ k m c o. omega (arith, l.bound m c o, w.right));
-            reached = best-reached;
-            short = best-short;
+                measured_more starts heads cover on most best after (get_or starts a 0) i w.left b.measured (λ k m c o. omega (arith, l.bound m c o, w.right));
+            reached = best_reached;
+            short = best_short;
           }
 
-  pub best-is : (best : ℕ) → Best starts heads cover on most a end end best → end ≡ get_or starts (a + 1) 0 → Longest starts heads cover on a most best
-  best-is best b last = record { reached = b.reached; short = b.short; bound = λ m h o. by m h (apart o) }
+  pub best_is : (best : ℕ) → Best starts heads cover on most a end end best → end ≡ get_or starts (a + 1) 0 → Longest starts heads cover on a most best
+  best_is best b last = record { reached = b.reached; short = b.short; bound = λ m h o. by m h (apart o) }
     where
       by : (m : ℕ) → m ≤ most → NoneMissing on m ⊎ Longer (Joined starts heads) (Dropped cover) NoneMissing on a m → m ≤ best
       by m h (inl e) = omega (arith, e.none)
@@ -226,8 +226,8 @@ module _ (starts heads cover on : List ℕ) (most a end : ℕ) where
                 (subst (λ (x : ℕ). Outward starts heads cover (on ++ (x ∷ [])) x w.left) e w.rest),
           )
 
-  pub longest-most : (best : ℕ) → most ≤ best → best ≤ most → Outward starts heads cover on a best → Longest starts heads cover on a most best
-  longest-most best h l r = record { reached = r; short = l; bound = λ m b o. omega arith }
+  pub longest_most : (best : ℕ) → most ≤ best → best ≤ most → Outward starts heads cover on a best → Longest starts heads cover on a most best
+  longest_most best h l r = record { reached = r; short = l; bound = λ m b o. omega arith }
 
 pub best_at : (starts heads cover on : List ℕ) (most a end i j best : ℕ) → i ≡ j → Best starts heads cover on most a end i best → Best starts heads cover on most a end j best
 best_at starts heads cover on most a end i j best e b = subst (λ (x : ℕ). Best starts heads cover on most a end x best) e b

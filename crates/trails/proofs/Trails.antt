@@ -39,8 +39,8 @@ module _ (nodes : List ℕ) (count v : ℕ) (long : length nodes ≡ 32) (few : 
       (mem_at (take count nodes) i (omega (arith, length-take-le count nodes (omega arith))))
 
   -- the nodes from place i on are others
-  pub not-met : ((j : ℕ) → 0 ≤ j → j < count → get_or nodes j 0 ≢ v) → Mem v (take count nodes) → ⊥
-  not-met f m =
+  pub not_met : ((j : ℕ) → 0 ≤ j → j < count → get_or nodes j 0 ≢ v) → Mem v (take count nodes) → ⊥
+  not_met f m =
       let p = place_of v (take count nodes) m in
       let l : p.0 < count = omega (arith, p.1, length-take-le count nodes (omega arith)) in
       f p.0 (omega arith) l (sym (get_or-take count nodes p.0 0 l) ∙ p.2)

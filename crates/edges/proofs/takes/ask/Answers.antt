@@ -9,7 +9,7 @@ use Rattle.road.specs.Faults.{graph_faults}
 use Rattle.road.specs.Limits.{overlay_limits}
 use Rattle.road.specs.Roads.{nodes_of}
 use Rattle.road.specs.workings.Verdicts.{Judges}
-use Rattle.road.proofs.Faults.{sound-of}
+use Rattle.road.proofs.Faults.{sound_of}
 use Rattle.search.specs.workings.Rows.{Asks}
 use borrow.Author.Rules.{rules}
 use Rattle.edges.proofs.takes.ask.Goals as goal
@@ -20,7 +20,7 @@ ready :
     Asks starts heads weights blocked 0 (replicate 4096 0) (replicate 4096 0) (replicate 4096 0)
 ready starts heads weights blocked v j e s b =
     record {
-      sound = sound-of overlay_limits starts heads weights (j.passed e);
+      sound = sound_of overlay_limits starts heads weights (j.passed e);
       node = omega arith;
       bytes = omega arith;
       room = omega (arith, long);

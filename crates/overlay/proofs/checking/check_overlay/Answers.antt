@@ -1,11 +1,11 @@
 use native.Mathlib.Omega.{arith}
 use Rattle.road.proofs.Refusals.{refuses, passes}
-use Rattle.overlay.proofs.Ends.{rows_more, graph-faulty, graph_sound, all_in}
+use Rattle.overlay.proofs.Ends.{rows_more, graph_faulty, graph_sound, all_in}
 use borrow.Author.Rules.{rules}
 use Rattle.overlay.proofs.checking.check_overlay.Goals as goal
 
 pub returns-in_default : goal.returns-in_default
-returns-in_default c = refuses (graph-faulty _ _ _ _ _ (rw c.overlay_limits.ensures at c.check_graph.ensures) _ c.in_default.is)
+returns-in_default c = refuses (graph_faulty _ _ _ _ _ (rw c.overlay_limits.ensures at c.check_graph.ensures) _ c.in_default.is)
 
 pub check_row-row-requires-clause-sound : goal.check_row-row-requires-clause-sound
 check_row-row-requires-clause-sound c = graph_sound _ _ _ _ (rw c.overlay_limits.ensures at c.check_graph.ensures) c.in-Passed.is

@@ -1,4 +1,4 @@
-use Rattle.overlay.proofs.Numbers.{number-few, number_more, number_past}
+use Rattle.overlay.proofs.Numbers.{number_few, number_more, number_past}
 use native.Mathlib.Omega.{arith}
 use Rattle.overlay.specs.Numbers.{Number}
 use Rattle.overlay.proofs.rows.count_row.Goals.{then-is_head, else-is_head}
@@ -8,7 +8,7 @@ pub loop-v-init : goal.loop-v-init
 loop-v-init c = (Number.none, omega arith)
 
 pub overflow_add-count : goal.overflow_add-count
-overflow_add-count c = omega (arith, number-few c.loop-v.invariant.0)
+overflow_add-count c = omega (arith, number_few c.loop-v.invariant.0)
 
 pub loop-v-preserved : goal.loop-v-preserved
 loop-v-preserved c = elim c.if-is_head.branch [

@@ -1,10 +1,10 @@
-use Rattle.pieces.proofs.Spreading.{room_after, raises-then, raises-grown, raised-still}
-use Rattle.pieces.proofs.Rows.{row-none, row_listed, row_more}
+use Rattle.pieces.proofs.Spreading.{room_after, raises_then, raises_grown, raised_still}
+use Rattle.pieces.proofs.Rows.{row_none, row_listed, row_more}
 use Rattle.pieces.specs.workings.Pieces.{none}
 use Rattle.pieces.proofs.sizes.raise_row.Goals as goal
 
 pub loop-i-init : goal.loop-i-init
-loop-i-init c = (none, row-none _ _ _ _ _ c.requires.searchable c.requires.x_in_bounds c.row-arcs.ensures.end _ _ c.row-arcs.ensures.first)
+loop-i-init c = (none, row_none _ _ _ _ _ c.requires.searchable c.requires.x_in_bounds c.row-arcs.ensures.end _ _ c.row-arcs.ensures.first)
 
 pub bounds-heads-i : goal.bounds-heads-i
 bounds-heads-i c = row_listed _ _ _ _ _ c.requires.searchable c.requires.x_in_bounds c.row-arcs.ensures.end _ c.loop-i.invariant.1 c.loop-i-test.true
@@ -13,4 +13,4 @@ pub raise-count-requires-clause-sizes_in_bounds : goal.raise-count-requires-clau
 raise-count-requires-clause-sizes_in_bounds c = room_after c.loop-i.invariant.0 c.requires.sizes_in_bounds
 
 pub loop-i-preserved : goal.loop-i-preserved
-loop-i-preserved c = (raises-then c.loop-i.invariant.0 c.raise-count.ensures.raises, row_more _ _ _ _ _ _ _ c.loop-i.invariant.1 c.loop-i-test.true (raised-still _ (raises-grown c.raise-count.ensures.raises)) c.raise-count.ensures.raised)
+loop-i-preserved c = (raises_then c.loop-i.invariant.0 c.raise-count.ensures.raises, row_more _ _ _ _ _ _ _ c.loop-i.invariant.1 c.loop-i-test.true (raised_still _ (raises_grown c.raise-count.ensures.raises)) c.raise-count.ensures.raised)

@@ -1,14 +1,14 @@
 use mathlib.Core.Path.{refl}
-use Rattle.pieces.proofs.Bounding.{two-fit}
-use Rattle.pieces.proofs.Ready.{search-back}
+use Rattle.pieces.proofs.Bounding.{two_fit}
+use Rattle.pieces.proofs.Ready.{search_back}
 use native.Mathlib.Omega.{arith}
 use Rattle.pieces.proofs.sizes.size_for.Goals as goal
 
 pub top-p-requires-clause-searchable : goal.top-p-requires-clause-searchable
-top-p-requires-clause-searchable c = search-back _ _ _ _ _ _ _ c.requires.prunable
+top-p-requires-clause-searchable c = search_back _ _ _ _ _ _ _ c.requires.prunable
 
 pub largest-into-requires-clause-searchable : goal.largest-into-requires-clause-searchable
-largest-into-requires-clause-searchable c = search-back _ _ _ _ _ _ _ c.requires.prunable
+largest-into-requires-clause-searchable c = search_back _ _ _ _ _ _ _ c.requires.prunable
 
 pub returns : goal.returns
-returns c = two-fit _ _ _ _ _ _ _ _ c.requires.prunable _ _ c.requires.kept _ _ _ _ _ _ _ _ _ c.wide-at.ensures c.largest-out.ensures c.largest-into.ensures c.larger-second.ensures c.wide.ensures c.wide-2.ensures c.larger-first.ensures _ refl (omega (arith, c.if-k-size.false))
+returns c = two_fit _ _ _ _ _ _ _ _ c.requires.prunable _ _ c.requires.kept _ _ _ _ _ _ _ _ _ c.wide-at.ensures c.largest-out.ensures c.largest-into.ensures c.larger-second.ensures c.wide.ensures c.wide-2.ensures c.larger-first.ensures _ refl (omega (arith, c.if-k-size.false))

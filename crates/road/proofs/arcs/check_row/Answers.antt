@@ -1,4 +1,4 @@
-use Rattle.road.proofs.Scans.{clear_at, clear-more, placed, found}
+use Rattle.road.proofs.Scans.{clear_at, clear_more, placed, found}
 use native.Mathlib.Omega.{arith}
 use Rattle.road.proofs.arcs.check_row.Goals as goal
 
@@ -12,7 +12,7 @@ returns-in_default c = rw c.in_default.is
     (c.check_arc-found.ensures.refused _ c.in_default.is))
 
 pub loop-p-preserved : goal.loop-p-preserved
-loop-p-preserved c = (omega arith, omega arith, clear-more _ _ _ _ _ c.loop-p.invariant.2 (c.check_arc-found.ensures.passed c.in-Passed.is))
+loop-p-preserved c = (omega arith, omega arith, clear_more _ _ _ _ _ c.loop-p.invariant.2 (c.check_arc-found.ensures.passed c.in-Passed.is))
 
 pub returns : goal.returns
 returns c = clear_at _ _ _ _ _ _ (omega arith) c.loop-p.invariant.2

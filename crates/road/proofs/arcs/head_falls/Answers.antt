@@ -1,7 +1,7 @@
-use Rattle.road.proofs.Scans.{first-of-row}
+use Rattle.road.proofs.Scans.{first_of_row}
 use Rattle.road.proofs.Refusals.{tells_no}
 use native.Mathlib.Omega.{arith}
 use Rattle.road.proofs.arcs.head_falls.Goals as goal
 
 pub returns-then-p-wide : goal.returns-then-p-wide
-returns-then-p-wide c = tells_no (first-of-row _ _ _ _ _ c.requires (omega arith))
+returns-then-p-wide c = tells_no (first_of_row _ _ _ _ _ c.requires (omega arith))

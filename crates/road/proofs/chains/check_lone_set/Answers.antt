@@ -1,6 +1,6 @@
-use Rattle.road.proofs.Refusals.{judged-alone, goes_on}
+use Rattle.road.proofs.Refusals.{judged_alone, goes_on}
 use mathlib.Core.List.{[], ◌∷◌}
 use Rattle.road.proofs.chains.check_lone_set.Goals as goal
 
 pub returns : goal.returns
-returns c = goes_on (_ ∷ []) _ c.in-Passed.is (judged-alone c.check_set_size-size.ensures) (judged-alone c.check_set.ensures)
+returns c = goes_on (_ ∷ []) _ c.in-Passed.is (judged_alone c.check_set_size-size.ensures) (judged_alone c.check_set.ensures)

@@ -1,4 +1,4 @@
-use Rattle.trails.proofs.Trails.{met, not-met}
+use Rattle.trails.proofs.Trails.{met, not_met}
 use Rattle.road.proofs.Refusals.{tells_yes, tells_no}
 use Rattle.std.proofs.Common.{arith}
 use borrow.Author.Rules.{rules}
@@ -8,4 +8,4 @@ pub returns-then-nodes-i : goal.returns-then-nodes-i
 returns-then-nodes-i c = tells_yes (met _ _ _ (search rules) c.requires _ (omega arith) c.if-nodes-i.true)
 
 pub returns : goal.returns
-returns c = tells_no (not-met _ _ _ (search rules) c.requires (λ j h. c.loop-i.invariant.1 j (omega arith)))
+returns c = tells_no (not_met _ _ _ (search rules) c.requires (λ j h. c.loop-i.invariant.1 j (omega arith)))
