@@ -42,10 +42,12 @@ Summed l m w = Plus (λ (x : ℕ). Mem x l) (λ (x : ℕ). Mem x m) w
 raised_only : (k w : ℕ) (l : List ℕ) → Mem w (raised k l) → (x : ℕ) × Mem x l × (w ≡ k + x)
 raised_only k w (x ∷ l) (inl e) = (x, inl refl, e)
 raised_only k w (x ∷ l) (inr h) = let r = raised_only k w l h in (r.0, inr r.1, r.2)
+raised_only k w [] x' = elim x' [ ]
 
 raised_all : (k x : ℕ) (l : List ℕ) → Mem x l → Mem (k + x) (raised k l)
 raised_all k x (y ∷ l) (inl e) = inl (ap (λ (z : ℕ). k + z) e)
 raised_all k x (y ∷ l) (inr h) = inr (raised_all k x l h)
+raised_all k x [] x'' = elim x'' [ ]
 
 pub sums_only : (l m : List ℕ) (w : ℕ) → Mem w (sums l m) → Summed l m w
 sums_only (x ∷ l) m w h = by (mem_cases w (raised x m) (sums l m) h) (sums_only l m w)
@@ -55,11 +57,13 @@ sums_only (x ∷ l) m w h = by (mem_cases w (raised x m) (sums l m) h) (sums_onl
     by (inr r) rest =
         let q = rest r in
         record { left = q.left; right = q.right; in_left = inr q.in_left; in_right = q.in_right; total = q.total }
+sums_only [] m w h = elim h [ ]
 
 sums_at : (l m : List ℕ) (x y : ℕ) → Mem x l → Mem y m → Mem (x + y) (sums l m)
 sums_at (z ∷ l) m x y (inl e) k =
     mem_left (x + y) (raised z m) (sums l m) (subst (λ (u : ℕ). Mem (u + y) (raised z m)) (sym e) (raised_all z y m k))
 sums_at (z ∷ l) m x y (inr h) k = mem_right (x + y) (raised z m) (sums l m) (sums_at l m x y h k)
+sums_at [] m x y x4 k = elim x4 [ ]
 
 pub sums_all : (l m : List ℕ) (w : ℕ) → Summed l m w → Mem w (sums l m)
 sums_all l m w s = subst (λ (u : ℕ). Mem u (sums l m)) (sym s.total) (sums_at l m s.left s.right s.in_left s.in_right)
