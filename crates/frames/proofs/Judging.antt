@@ -5,8 +5,6 @@ use mathlib.Core.List.{List, [], ◌∷◌, ◌++◌}
 use Prim.Native.Nat.{ℕ, suc, ◌+◌, ◌-◌, ◌≤◌, ◌<◌}
 use native.Mathlib.Omega.{arith}
 use borrow.Rule.Slice.PartMut.{mid_of}
-use denote.Enum.Declared.{tag_of}
-use types.Run.{OneOf, miss}
 use lib.ListN.{length, get_or, set, take, drop, length-append}
 use lib.Seq.{length-take-le, take_at, take-suc-set}
 use Rattle.road.specs.declared.ArcCount.{ArcCount}
@@ -17,7 +15,6 @@ use Rattle.hexlines.specs.Outputs.{Out, text_of}
 use Rattle.hexlines.specs.Writers.{Wrote}
 use Rattle.maps.specs.Lists.{starts_of}
 use Rattle.readings.proofs.Unique.{read_one}
-use Rattle.readings.specs.contracts.Line as Told-line
 use Rattle.readings.specs.declared.Line.{Line}
 use Rattle.readings.specs.declared.Line.TheVariants.{Head, Arc, Question, Drive, Wrong}
 use Rattle.readings.specs.Frames.{Frame, head, arc, question, drive, ReadAs, Reads, Tells}
@@ -213,32 +210,32 @@ apt_as s g q d = subst (Apt s) q (apt d)
 
 -- the frame that is told is of another kind
 pub not_head :
-    (ℓ : ℕ) (read : Line) (nodes : List ℕ) → OneOf (1 ∷ 2 ∷ 3 ∷ 4 ∷ []) (tag_of Told-line.the_type read) →
+    (ℓ : ℕ) (read : Line) (nodes : List ℕ) → ((n : NodeCount) (m : ArcCount) (k : NodeCount) → read ≡ Head n m k → ⊥) →
     Judged ℓ begun read nodes stopped (refused_by R.Line ℓ)
 not_head ℓ read nodes o = undue (none read o)
   where
-    none : (read : Line) → OneOf (1 ∷ 2 ∷ 3 ∷ 4 ∷ []) (tag_of Told-line.the_type read) → (f : Frame) → Says read nodes f → Due begun f → ⊥
-    none (Head n m k) o f q d = miss (1 ∷ 2 ∷ 3 ∷ 4 ∷ []) 0 tt o
+    none : (read : Line) → ((n : NodeCount) (m : ArcCount) (k : NodeCount) → read ≡ Head n m k → ⊥) → (f : Frame) → Says read nodes f → Due begun f → ⊥
+    none (Head n m k) o f q d = o n m k refl
     none (Arc t h w) o f q d = apt_as begun (arc t h w) q d
     none (Question a b) o f q d = apt_as begun (question a b) q d
     none (Drive count) o f q d = apt_as begun (drive (take count nodes)) q d
     none Wrong o f q d = q
 
 pub not_arc :
-    (ℓ : ℕ) (s : State) (A : Areas) (read : Line) (nodes : List ℕ) → OneOf (0 ∷ 2 ∷ 3 ∷ 4 ∷ []) (tag_of Told-line.the_type read) →
+    (ℓ : ℕ) (s : State) (A : Areas) (read : Line) (nodes : List ℕ) → ((t h w : ℕ) → read ≡ Arc t h w → ⊥) →
     Judged ℓ (loading_in s A) read nodes stopped (refused_by R.Line ℓ)
 not_arc ℓ s A read nodes o = undue (none read o)
   where
-    none : (read : Line) → OneOf (0 ∷ 2 ∷ 3 ∷ 4 ∷ []) (tag_of Told-line.the_type read) → (f : Frame) → Says read nodes f → Due (loading_in s A) f → ⊥
+    none : (read : Line) → ((t h w : ℕ) → read ≡ Arc t h w → ⊥) → (f : Frame) → Says read nodes f → Due (loading_in s A) f → ⊥
     none (Head n m k) o f q d = apt_as (loading_in s A) (head n.0 m.0 k.0) q d
-    none (Arc t h w) o f q d = miss (0 ∷ 2 ∷ 3 ∷ 4 ∷ []) 1 tt o
+    none (Arc t h w) o f q d = o t h w refl
     none (Question a b) o f q d = apt_as (loading_in s A) (question a b) q d
     none (Drive count) o f q d = apt_as (loading_in s A) (drive (take count nodes)) q d
     none Wrong o f q d = q
 
 pub not_asked :
     (ℓ : ℕ) (read : Line) (nodes : List ℕ) (M : Map) (good : Bool) (over : ℕ) (out : List ℕ) (at : ℕ) (out' : List ℕ) (at' : ℕ) →
-    OneOf (0 ∷ 1 ∷ 3 ∷ 4 ∷ []) (tag_of Told-line.the_type read) → OneOf (0 ∷ 1 ∷ 2 ∷ 4 ∷ []) (tag_of Told-line.the_type read) →
+    ((a b : ℕ) → read ≡ Question a b → ⊥) → ((count : ℕ) → read ≡ Drive count → ⊥) →
     (good ≡ false) × (Wrote out at (text_of (refused_by R.Line ℓ)) out' at') × (over ≡ 0) →
     Printed (Judged ℓ (asking M) read nodes) (stage_if good M) out at out' at'
 not_asked ℓ read nodes M good over out at out' at' o p w =
@@ -249,12 +246,12 @@ not_asked ℓ read nodes M good over out at out' at' o p w =
     }
   where
     none :
-        (read : Line) → OneOf (0 ∷ 1 ∷ 3 ∷ 4 ∷ []) (tag_of Told-line.the_type read) → OneOf (0 ∷ 1 ∷ 2 ∷ 4 ∷ []) (tag_of Told-line.the_type read) →
+        (read : Line) → ((a b : ℕ) → read ≡ Question a b → ⊥) → ((count : ℕ) → read ≡ Drive count → ⊥) →
         (f : Frame) → Says read nodes f → Due (asking M) f → ⊥
     none (Head n m k) o p f q d = apt_as (asking M) (head n.0 m.0 k.0) q d
     none (Arc t h w) o p f q d = apt_as (asking M) (arc t h w) q d
-    none (Question a b) o p f q d = miss (0 ∷ 1 ∷ 3 ∷ 4 ∷ []) 2 tt o
-    none (Drive count) o p f q d = miss (0 ∷ 1 ∷ 2 ∷ 4 ∷ []) 3 tt p
+    none (Question a b) o p f q d = o a b refl
+    none (Drive count) o p f q d = p count refl
     none Wrong o p f q d = q
 
 -- what is told of a line is a frame of which its text is

@@ -8,4 +8,4 @@ pub returns-in-Drive : goal.returns-in-Drive
 returns-in-Drive c = asks_drive _ _ _ _ _ _ _ _ _ _ c.in-Drive.is c.take_drive.ensures
 
 pub returns : goal.returns
-returns c = not_asked _ _ _ _ _ _ _ _ _ _ c.in_default.in_default-own.keys2 c.in_default-read.in_default-read-own.keys2 c.refuse.ensures
+returns c = not_asked _ _ _ _ _ _ _ _ _ _ c.in_default.not-Question c.in_default-read.not-Drive c.refuse.ensures
