@@ -1,5 +1,5 @@
 -- The stage that the code's state and the lent areas stand for, and what a call leaves.
-use Rattle.std.specs.Prelude.{◌≡◌, Bool, true, false, List, ℕ, ◌+◌, ◌-◌, take}
+use Rattle.std.specs.Prelude.{◌≡◌, Bool, true, false, List, ℕ, ◌+◌, take}
 use Rattle.hexlines.specs.Outputs.{Out}
 use Rattle.frames.specs.declared.State.{State}
 use Rattle.frames.specs.declared.Phase.{Phase}

@@ -10,23 +10,23 @@ use Rattle.gulvane.specs.Results.{count_said, said_count, distance_said, said_di
 use Rattle.gulvane.specs.declared.GulvaneCount.{GulvaneCount}
 use Rattle.gulvane.specs.declared.GulvaneDistance.{GulvaneDistance}
 
-length_count_of : (r : Refusal) → count_said (number_of r) 0 ≡ refusal r
-length_count_of Sizes = refl
-length_count_of Starts = refl
-length_count_of Arcs = refl
-length_count_of K = refl
-length_count_of Order = refl
-length_count_of Set = refl
-length_count_of Overlay = refl
-length_count_of Node = refl
-length_count_of Outside = refl
-length_count_of Drive = refl
-length_count_of Lengths = refl
-length_count_of Room = refl
-length_count_of Line = refl
+count_of : (r : Refusal) → count_said (number_of r) 0 ≡ refusal r
+count_of Sizes = refl
+count_of Starts = refl
+count_of Arcs = refl
+count_of K = refl
+count_of Order = refl
+count_of Set = refl
+count_of Overlay = refl
+count_of Node = refl
+count_of Outside = refl
+count_of Drive = refl
+count_of Lengths = refl
+count_of Room = refl
+count_of Line = refl
 
 pub count_refused : (r : Refusal) (n : ℕ) → n ≡ number_of r → count_said n 0 ≡ refusal r
-count_refused r n e = ap (λ (k : ℕ). count_said k 0) e ∙ length_count_of r
+count_refused r n e = ap (λ (k : ℕ). count_said k 0) e ∙ count_of r
 
 distance_of : (r : Refusal) → distance_said (number_of r) 0 0 ≡ refusal r
 distance_of Sizes = refl

@@ -82,7 +82,8 @@ fn running(s: State) -> bool
     }
 }
 
-// Prints what waits.
+// Prints what waits. Here and below an error is of the write or the read alone, and ends the program;
+// what the arrays then hold is not said.
 fn flush(rt: &impl Print, out: &[u8], at: usize) -> io::Result<()>
     requires { at ≤ length out.now }
 {

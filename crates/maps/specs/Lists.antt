@@ -1,5 +1,5 @@
 -- The lists that the arcs read make, and the lines that a map makes.
-use Rattle.std.specs.Prelude.{Bool, true, false, List, [], ◌∷◌, ◌++◌, ℕ, zero, suc, ◌+◌, ◌-◌, eqb, get_or}
+use Rattle.std.specs.Prelude.{Bool, true, false, List, [], ◌∷◌, ◌++◌, ℕ, zero, suc, ◌-◌, eqb, get_or}
 use Rattle.road.specs.Counting.{under}
 use Rattle.hexlines.specs.Outputs.{Out, point, arc}
 

@@ -1,5 +1,4 @@
 use Rattle.maps.proofs.Fills.{below_more}
-use Prim.Native.Nat.{◌-◌}
 use Rattle.maps.proofs.lists.count_below.Goals as goal
 
 pub loop-i-preserved : goal.loop-i-preserved

@@ -1,6 +1,5 @@
 use Rattle.maps.specs.Lists.{numbers}
 use Rattle.maps.proofs.Fills.{filled_more, counted_more}
-use Prim.Native.Nat.{◌-◌}
 use native.Mathlib.Omega.{arith}
 use Rattle.maps.proofs.lists.count_up.Goals as goal
 

@@ -1,6 +1,5 @@
 use Rattle.maps.specs.Lists.{belows}
 use Rattle.maps.proofs.Fills.{filled_more, belows_more}
-use Prim.Native.Nat.{◌-◌}
 use native.Mathlib.Omega.{arith}
 use Rattle.maps.proofs.lists.write_starts.Goals as goal
 

@@ -1,5 +1,4 @@
 use Rattle.maps.proofs.Printed.{rows_ask, rows_more}
-use Prim.Native.Nat.{◌-◌}
 use Rattle.maps.proofs.printing.write_arcs.Goals as goal
 
 pub write_row-next-requires : goal.write_row-next-requires

@@ -1,5 +1,4 @@
 use Rattle.maps.proofs.Printed.{points_more}
-use Prim.Native.Nat.{◌-◌}
 use Rattle.maps.proofs.printing.write_points.Goals as goal
 
 pub loop-v-preserved : goal.loop-v-preserved

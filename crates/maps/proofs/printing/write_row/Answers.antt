@@ -1,5 +1,4 @@
 use Rattle.maps.proofs.Printed.{row_room, row_more}
-use Prim.Native.Nat.{◌-◌}
 use native.Mathlib.Omega.{arith}
 use Rattle.maps.proofs.printing.write_row.Goals as goal
 
