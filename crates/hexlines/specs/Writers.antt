@@ -1,4 +1,4 @@
--- What a writer is once a byte is written, and what a slice holds once a text is written.
+-- What a writer is once a byte is written, and what it and its slice are once a text is written.
 use Rattle.std.specs.Prelude.{◌≡◌, List, ℕ, ◌+◌, ◌/◌, ◌%◌, ◌≤◌, length, set}
 use Rattle.std.proofs.lemmas.List.Edits.{sets}
 use denote.Ref.{at_last}
@@ -19,3 +19,8 @@ pub record Wrote (l : List ℕ) (i : ℕ) (ts m : List ℕ) (j : ℕ) : Type 0 w
   pub next : j ≡ i + length ts
   pub room : j ≤ length l
   pub text : m ≡ sets l i ts
+
+-- the writer w writes the text ts at its place, and is w' then, over the same slice
+pub record Writes (w : Writer) (ts : List ℕ) (w' : Writer) : Type 0 where
+  pub wrote : Wrote w.buf.now w.at ts w'.buf.now w'.at
+  pub same : w'.buf.ghost_name ≡ w.buf.ghost_name

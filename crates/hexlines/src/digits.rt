@@ -1,6 +1,9 @@
 // Digits: one byte is two of them, the high one first.
-ghost use Rattle.std.specs.Prelude.{◌≡◌, ◌+◌, ◌<◌, ◌/◌, ◌%◌, length, set};
+ghost use Rattle.std.specs.Prelude.{◌≡◌, ◌+◌, ◌<◌, length};
 ghost use Rattle.hexlines.specs.Text.{digit};
+ghost use Rattle.hexlines.specs.Writers.{grown};
+
+use crate::Writer;
 
 // The digit of a number below 16.
 fn digit_of(d: u8) -> u8
@@ -8,17 +11,26 @@ fn digit_of(d: u8) -> u8
     ensures { result ≡ digit d }
 {
     if d < 10 {
-        return d + 48;
+        return b'0' + d;
     }
-    d + 55
+    b'A' + (d - 10)
 }
 
-// Writes the two digits of a byte, and says where the next one goes.
-pub fn put_digits(buf: &mut [u8], at: usize, b: u8) -> usize
-    requires { at + 1 < length buf.old }
-    ensures { (result ≡ at + 2) × (buf.new ≡ set (set buf.old at (digit (b / 16))) (at + 1) (digit (b % 16))) }
-{
-    buf[at] = digit_of(b / 16);
-    buf[at + 1] = digit_of(b % 16);
-    at + 2
+impl<'a> Writer<'a> {
+    // The borrow goes into the writer, beside the place.
+    pub fn new(buf: &'a mut [u8], at: usize) -> Writer<'a>
+        ensures { (result.buf ≡ buf.entry) × (result.at ≡ at) }
+    {
+        Writer { buf, at }
+    }
+
+    // Writes the two digits of a byte.
+    pub fn byte(&mut self, b: u8)
+        requires { self.old.at + 1 < length self.old.buf.now }
+        ensures { self.new ≡ grown self.old b }
+    {
+        self.buf[self.at] = digit_of(b / 16);
+        self.buf[self.at + 1] = digit_of(b % 16);
+        self.at += 2;
+    }
 }
