@@ -7,12 +7,12 @@ use Prim.Native.Nat.{ℕ, zero, suc}
 use native.Mathlib.Omega.{arith}
 use Rattle.road.specs.declared.Refusal.{Refusal}
 use Rattle.road.specs.declared.Refusal.TheVariants.{Sizes, Starts, Arcs, K, Order, Set, Overlay, Node, Outside, Drive, Lengths, Room, Line}
-use Rattle.road.specs.declared.Verdict.{Verdict}
-use Rattle.road.specs.declared.Verdict.TheVariants.{Passed, Refused}
+use Rattle.std.specs.Prelude.{Ok, Err}
+use Rattle.std.specs.Result.{IsErrAnd}
 use lib.ListN.{get_or}
 use Rattle.road.specs.Order.{HoldsAt, NoneTo}
 use Rattle.road.specs.Refusals.{number_of, Fault, Of, None, First, Said, refusal, answer}
-use Rattle.road.specs.workings.Verdicts.{Single, Singles, Decided, Judged, Judges, Tells}
+use Rattle.road.specs.workings.Verdicts.{Verdict, Single, Singles, Decided, Judged, Judges, Tells}
 
 pub of_single : {r : Refusal} {P : Type 0} → Single (Of r P)
 of_single = record { one = λ s t f g. f.is ∙ sym g.is }
@@ -103,31 +103,31 @@ pub of_number : {r : Refusal} {P : Type 0} → (s : Refusal) → Of r P s → nu
 of_number s f = ap number_of f.is
 
 -- a verdict is passed or refused, and not both
-pub not_both : {v : Verdict} {r : Refusal} → v ≡ Passed → v ≡ Refused r → ⊥
+pub not_both : {v : Verdict} {r : Refusal} → v ≡ Ok tt → v ≡ Err r → ⊥
 not_both e f = let z : ◌≡◌ {A = ℕ} 0 1 = cc in omega arith
 
-refusal_of : {r s : Refusal} → Refused r ≡ Refused s → r ≡ s
+refusal_of : {r s : Refusal} → ◌≡◌ {A = Verdict} (Err r) (Err s) → r ≡ s
 refusal_of e = cc
 
 module _ {Fs : List Fault} where
-  pub judges_passed : None Fs → Judges Fs Passed
+  pub judges_passed : None Fs → Judges Fs (Ok tt)
   judges_passed n = record { passed = λ e. n; refused = λ r e. absurd (not_both refl e) }
 
-  pub judges_refused : {r : Refusal} → First Fs r → Judges Fs (Refused r)
+  pub judges_refused : {r : Refusal} → First Fs r → Judges Fs (Err r)
   judges_refused f = record { passed = λ e. absurd (not_both e refl); refused = λ s e. subst (First Fs) (refusal_of e) f }
 
   -- so two verdicts on one list are equal
   pub judges_one : Singles Fs → (v w : Verdict) → Judges Fs v → Judges Fs w → v ≡ w
-  judges_one o Passed Passed f g = refl
-  judges_one o Passed (Refused s) f g = absurd (first_not_none Fs s (g.refused s refl) (f.passed refl))
-  judges_one o (Refused r) Passed f g = absurd (first_not_none Fs r (f.refused r refl) (g.passed refl))
-  judges_one o (Refused r) (Refused s) f g = ap Refused (first_one Fs r s o (f.refused r refl) (g.refused s refl))
+  judges_one o (Ok x) (Ok y) f g = refl
+  judges_one o (Ok x) (Err s) f g = absurd (first_not_none Fs s (g.refused s refl) (f.passed refl))
+  judges_one o (Err r) (Ok y) f g = absurd (first_not_none Fs r (f.refused r refl) (g.passed refl))
+  judges_one o (Err r) (Err s) f g = ap Err (first_one Fs r s o (f.refused r refl) (g.refused s refl))
 
 module _ {F : Fault} where
-  pub judged_passed : ((s : Refusal) → F s → ⊥) → Judged F Passed
+  pub judged_passed : ((s : Refusal) → F s → ⊥) → Judged F (Ok tt)
   judged_passed n = record { passed = λ e. n; refused = λ r e. absurd (not_both refl e) }
 
-  pub judged_refused : {r : Refusal} → F r → Judged F (Refused r)
+  pub judged_refused : {r : Refusal} → F r → Judged F (Err r)
   judged_refused f = record { passed = λ e. absurd (not_both e refl); refused = λ s e. subst F (refusal_of e) f }
 
   -- a verdict on one fault is one on a list of it alone
@@ -147,10 +147,10 @@ module _ {r : Refusal} {P : Type 0} where
   pub told : P → Of r P r
   told p = record { is = refl; holds = p }
 
-  pub refuses : P → Judged (Of r P) (Refused r)
+  pub refuses : P → Judged (Of r P) (Err r)
   refuses p = judged_refused (told p)
 
-  pub passes : (P → ⊥) → Judged (Of r P) Passed
+  pub passes : (P → ⊥) → Judged (Of r P) (Ok tt)
   passes n = judged_passed (untold n)
 
 -- a chain of checks
@@ -168,11 +168,22 @@ none_both [] Gs n m = m
 none_both (F ∷ Fs) Gs n m = (n.0, none_both Fs Gs n.1 m)
 
 -- it ends with the check that refused
-pub stops : (Fs Gs : List Fault) {v : Verdict} {r : Refusal} → v ≡ Refused r → Judges Fs v → Judges (Fs ++ Gs) v
+pub stops : (Fs Gs : List Fault) {v : Verdict} {r : Refusal} → v ≡ Err r → Judges Fs v → Judges (Fs ++ Gs) v
 stops Fs Gs e j = record { passed = λ p. absurd (not_both p e); refused = λ s q. first_early Fs Gs s (j.refused s q) }
 
+-- what `?` hands on is what the check refused by
+pub handed_on : {v w : Verdict} {r : Refusal} → v ≡ Err r → IsErrAnd w (λ s. s ≡ r) → w ≡ v
+handed_on {w = Ok x} e h = elim h [ ]
+handed_on {w = Err s} e h = ap Err h ∙ sym e
+
+pub hands_on : (Fs Gs : List Fault) {v w : Verdict} {r : Refusal} → v ≡ Err r → IsErrAnd w (λ s. s ≡ r) → Judges Fs v → Judges (Fs ++ Gs) w
+hands_on Fs Gs {v = v} {w = w} {r = r} e h j = subst (λ (x : Verdict). Judges (Fs ++ Gs) x) (sym (handed_on {v = v} {w = w} {r = r} e h)) (stops Fs Gs e j)
+
+pub refused_on : {F : Fault} {v w : Verdict} {r : Refusal} → v ≡ Err r → IsErrAnd w (λ s. s ≡ r) → F r → Judged F w
+refused_on {F = F} {v = v} {w = w} e h f = subst (λ (x : Verdict). Judged F x) (sym (handed_on {v = v} {w = w} e h ∙ e)) (judged_refused f)
+
 -- and goes on after one that passed
-pub goes_on : (Fs Gs : List Fault) {v w : Verdict} → v ≡ Passed → Judges Fs v → Judges Gs w → Judges (Fs ++ Gs) w
+pub goes_on : (Fs Gs : List Fault) {v w : Verdict} → v ≡ Ok tt → Judges Fs v → Judges Gs w → Judges (Fs ++ Gs) w
 goes_on Fs Gs e j k =
     record { passed = λ p. none_both Fs Gs (j.passed e) (k.passed p); refused = λ s q. first_late Fs Gs s (j.passed e) (k.refused s q) }
 

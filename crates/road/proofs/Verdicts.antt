@@ -3,13 +3,13 @@ use mathlib.Core.Path.{◌≡◌}
 use mathlib.Core.List.{List, [], ◌∷◌, ◌++◌}
 use Prim.Native.Nat.{ℕ}
 use Rattle.road.specs.declared.Limits.{Limits}
-use Rattle.road.specs.declared.Verdict.{Verdict}
+use Rattle.std.specs.Prelude.{Ok, Err}
 use Rattle.road.specs.Chains.{cover_faults, road_and_set_faults, lone_set_faults, drive_faults}
 use Rattle.road.specs.Faults.{graph_faults, k_fault, order_fault, set_fault}
 use Rattle.road.specs.Drives.{drive_fault}
 use Rattle.road.specs.Limits.{road_limits}
 use Rattle.road.specs.Refusals.{Fault}
-use Rattle.road.specs.workings.Verdicts.{Singles, Judges}
+use Rattle.road.specs.workings.Verdicts.{Verdict, Singles, Judges}
 use Rattle.road.specs.Roads.{nodes_of}
 use Rattle.road.proofs.Faults.{graph_singles}
 use Rattle.road.proofs.Refusals.{of_single, judges_one}

@@ -3,6 +3,7 @@ pub mod Limits
 pub mod Refusals
 pub mod Order
 pub mod Roads
+pub mod Lent
 pub mod Faults
 pub mod Drives
 pub mod Chains

@@ -6,85 +6,66 @@ ghost use Rattle.road.specs.workings.Sound.{Listed};
 ghost use Rattle.road.specs.Roads.{nodes_of};
 ghost use Rattle.road.specs.workings.Scans.{Clear, Placed, Scanned};
 
-use crate::counts::wide;
-use crate::spans::row;
-use crate::{Limits, Refusal, Verdict};
+use crate::{Graph, Limits, Refusal};
 
 // Whether the head at place p is not above that of the arc before it of the same tail.
-fn head_falls(starts: &[u32], heads: &[u32], weights: &[u32], tail: usize, p: usize) -> bool
-    requires { Placed starts.now heads.now weights.now tail p }
-    ensures { Tells result (HeadFalls starts.now heads.now p) }
+fn head_falls(graph: &Graph, tail: usize, p: usize) -> bool
+    requires { Placed graph.now.starts.now graph.now.heads.now graph.now.weights.now tail p }
+    ensures { Tells result (HeadFalls graph.now.starts.now graph.now.heads.now p) }
 {
-    if p <= wide(starts[tail]) {
+    let starts = graph.starts;
+    let heads = graph.heads;
+    if p <= starts[tail] as usize {
         return false;
     }
-    if heads[p] <= heads[p - 1] {
-        return true;
-    }
-    false
+    heads[p] <= heads[p - 1]
 }
 
 // The faults of the arc at place p, one of tail's.
-fn check_arc(
-    starts: &[u32],
-    heads: &[u32],
-    weights: &[u32],
-    limits: Limits,
-    tail: usize,
-    p: usize,
-) -> Verdict
-    requires { Placed starts.now heads.now weights.now tail p }
-    ensures { Judges (arc_faults limits starts.now heads.now weights.now p) result }
+fn check_arc(graph: &Graph, limits: Limits, tail: usize, p: usize) -> Result<(), Refusal>
+    requires { Placed graph.now.starts.now graph.now.heads.now graph.now.weights.now tail p }
+    ensures { Judges (arc_faults limits graph.now.starts.now graph.now.heads.now graph.now.weights.now p) result }
 {
-    let head = wide(heads[p]);
+    let heads = graph.heads;
+    let weights = graph.weights;
+    let head = heads[p] as usize;
     let most = limits.weight;
-    if starts.len() - 1 <= head {
-        return Verdict::Refused(Refusal::Arcs);
+    if graph.node_count().0 <= head {
+        return Err(Refusal::Arcs);
     }
     if head == tail {
-        return Verdict::Refused(Refusal::Arcs);
+        return Err(Refusal::Arcs);
     }
-    if head_falls(starts, heads, weights, tail, p) {
-        return Verdict::Refused(Refusal::Arcs);
+    if head_falls(graph, tail, p) {
+        return Err(Refusal::Arcs);
     }
     if most < weights[p] {
-        return Verdict::Refused(Refusal::Arcs);
+        return Err(Refusal::Arcs);
     }
-    Verdict::Passed
+    Ok(())
 }
 
 // The arcs of one tail, those of the tails before it being without fault.
-fn check_row(starts: &[u32], heads: &[u32], weights: &[u32], limits: Limits, tail: usize) -> Verdict
-    requires listed { Listed starts.now heads.now weights.now }
-    requires tail_bound { tail < nodes_of starts.now }
-    requires clear { Clear limits starts.now heads.now weights.now tail }
-    ensures { Scanned limits starts.now heads.now weights.now tail result }
+fn check_row(graph: &Graph, limits: Limits, tail: usize) -> Result<(), Refusal>
+    requires listed { Listed graph.now.starts.now graph.now.heads.now graph.now.weights.now }
+    requires tail_bound { tail < nodes_of graph.now.starts.now }
+    requires clear { Clear limits graph.now.starts.now graph.now.heads.now graph.now.weights.now tail }
+    ensures { Scanned limits graph.now.starts.now graph.now.heads.now graph.now.weights.now tail result }
 {
-    let arcs = row(starts, tail);
-    let end = arcs.end;
-    let mut p = arcs.first;
-    while p < end {
-        let found = check_arc(starts, heads, weights, limits, tail, p);
-        let Verdict::Passed = found else {
-            return found;
-        };
-        p += 1;
+    let row = graph.row(tail);
+    for p in row.start..row.end {
+        check_arc(graph, limits, tail, p)?;
     }
-    Verdict::Passed
+    Ok(())
 }
 
 // Check 3, under either limits.
-pub fn check_arcs(starts: &[u32], heads: &[u32], weights: &[u32], limits: Limits) -> Verdict
-    requires { Listed starts.now heads.now weights.now }
-    ensures { Judged (ArcFault limits starts.now heads.now weights.now) result }
+pub fn check_arcs(graph: &Graph, limits: Limits) -> Result<(), Refusal>
+    requires { Listed graph.now.starts.now graph.now.heads.now graph.now.weights.now }
+    ensures { Judged (ArcFault limits graph.now.starts.now graph.now.heads.now graph.now.weights.now) result }
 {
-    let mut tail = 0;
-    while tail < starts.len() - 1 {
-        let found = check_row(starts, heads, weights, limits, tail);
-        let Verdict::Passed = found else {
-            return found;
-        };
-        tail += 1;
+    for tail in 0..graph.node_count().0 {
+        check_row(graph, limits, tail)?;
     }
-    Verdict::Passed
+    Ok(())
 }

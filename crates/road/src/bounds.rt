@@ -4,7 +4,7 @@ ghost use Rattle.road.specs.Faults.{k_fault};
 ghost use Rattle.road.specs.Limits.{road_limits, overlay_limits};
 ghost use Rattle.road.specs.workings.Verdicts.{Judged};
 
-use crate::{ArcCount, Limits, NodeCount, Refusal, Verdict};
+use crate::{ArcCount, Limits, NodeCount, Refusal};
 
 pub fn road_limits() -> Limits
     ensures { result ≡ road_limits }
@@ -25,14 +25,11 @@ pub fn overlay_limits() -> Limits
 }
 
 // Check 4.
-pub fn check_k(k: NodeCount) -> Verdict
+pub fn check_k(k: NodeCount) -> Result<(), Refusal>
     ensures { Judged (k_fault k.0) result }
 {
-    if k.0 == 0 {
-        return Verdict::Refused(Refusal::K);
+    if k.0 == 0 || 32 < k.0 {
+        return Err(Refusal::K);
     }
-    if 32 < k.0 {
-        return Verdict::Refused(Refusal::K);
-    }
-    Verdict::Passed
+    Ok(())
 }

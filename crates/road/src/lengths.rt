@@ -1,48 +1,52 @@
 // Checks 1 and 11: lengths.
-ghost use Rattle.road.specs.Faults.{sizes, set_size, length_fault};
+ghost use Rattle.road.specs.Faults.{sizes, set_size, length_fault, lengths_fault};
 ghost use Rattle.road.specs.workings.Verdicts.{Judged};
 
-use crate::{Limits, Refusal, Verdict};
+use crate::{Graph, Limits, Refusal};
 
 // Check 1, of a graph's three slices.
-pub fn check_sizes(starts: &[u32], heads: &[u32], weights: &[u32], limits: Limits) -> Verdict
-    ensures { Judged (sizes limits starts.now heads.now weights.now) result }
+pub fn check_sizes(graph: &Graph, limits: Limits) -> Result<(), Refusal>
+    ensures { Judged (sizes limits graph.now.starts.now graph.now.heads.now graph.now.weights.now) result }
 {
-    let most = limits.arcs.0;
-    if starts.len() < 2 {
-        return Verdict::Refused(Refusal::Sizes);
+    let starts = graph.starts.len();
+    let heads = graph.heads.len();
+    if starts < 2 || 4097 < starts {
+        return Err(Refusal::Sizes);
     }
-    if 4097 < starts.len() {
-        return Verdict::Refused(Refusal::Sizes);
+    if heads != graph.weights.len() || limits.arcs.0 < heads {
+        return Err(Refusal::Sizes);
     }
-    if heads.len() != weights.len() {
-        return Verdict::Refused(Refusal::Sizes);
-    }
-    if most < heads.len() {
-        return Verdict::Refused(Refusal::Sizes);
-    }
-    Verdict::Passed
+    Ok(())
 }
 
 // Check 1, of a set that is lent without a road graph.
-pub fn check_set_size(set: &[u8]) -> Verdict
+pub fn check_set_size(set: &[u8]) -> Result<(), Refusal>
     ensures { Judged (set_size set.now) result }
 {
-    if set.len() == 0 {
-        return Verdict::Refused(Refusal::Sizes);
+    if set.len() == 0 || 4096 < set.len() {
+        return Err(Refusal::Sizes);
     }
-    if 4096 < set.len() {
-        return Verdict::Refused(Refusal::Sizes);
-    }
-    Verdict::Passed
+    Ok(())
 }
 
 // Check 11, of one slice: the length that it has, and the length that is asked.
-pub fn check_length(given: usize, asked: usize) -> Verdict
+pub fn check_length(given: usize, asked: usize) -> Result<(), Refusal>
     ensures { Judged (length_fault given asked) result }
 {
     if given != asked {
-        return Verdict::Refused(Refusal::Lengths);
+        return Err(Refusal::Lengths);
     }
-    Verdict::Passed
+    Ok(())
+}
+
+// Check 11, of several slices.
+pub fn check_lengths(lengths: &[(usize, usize)]) -> Result<(), Refusal>
+    ensures { Judged (lengths_fault lengths.now) result }
+{
+    for (given, asked) in lengths {
+        if given != asked {
+            return Err(Refusal::Lengths);
+        }
+    }
+    Ok(())
 }

@@ -1,7 +1,7 @@
 // The road graph as it is lent, its limits, the refusals, and every check.
 //
-// A graph is three slices: n + 1 starts, m heads, m weights. A check looks at what it is lent and
-// changes nothing; it may ask that the checks before it passed. The chains take any input.
+// A check looks at what it is lent and changes nothing; it may ask that the checks before it
+// passed. The chains take any input.
 #![tactic(auto)]
 
 mod arcs;
@@ -9,25 +9,23 @@ mod bounds;
 mod chains;
 mod counts;
 mod drive;
-mod filling;
+mod lending;
 mod lengths;
 mod order;
 mod sets;
-mod spans;
 mod starts;
+mod telling;
 
 pub use arcs::check_arcs;
 pub use bounds::{check_k, overlay_limits, road_limits};
 pub use chains::{
     check_cover_input, check_drive_input, check_graph, check_lone_set, check_road_and_set,
 };
-pub use counts::{arcs_on_path, node_count, number, wide};
-pub use drive::{check_drive, joined};
-pub use filling::{clear, fill_bytes};
-pub use lengths::{check_length, check_set_size, check_sizes};
+pub use counts::arcs_on_path;
+pub use drive::check_drive;
+pub use lengths::{check_length, check_lengths, check_set_size, check_sizes};
 pub use order::check_order;
 pub use sets::{check_in_set, check_nodes, check_set};
-pub use spans::row;
 pub use starts::check_starts;
 
 // A count of nodes.
@@ -39,11 +37,20 @@ pub struct NodeCount(pub usize);
 #[derive(Clone, Copy)]
 pub struct ArcCount(pub usize);
 
-// The places from `first` up to, but not including, `end`.
+// A graph: n + 1 starts, m heads, m weights. Nothing is asked of them but by a check.
 #[derive(Clone, Copy)]
-pub struct Span {
-    pub first: usize,
-    pub end: usize,
+pub struct Graph<'a> {
+    pub starts: &'a [u32],
+    pub heads: &'a [u32],
+    pub weights: &'a [u32],
+}
+
+// A graph that is lent to be written.
+#[derive(Drop)]
+pub struct GraphMut<'a> {
+    pub starts: &'a mut [u32],
+    pub heads: &'a mut [u32],
+    pub weights: &'a mut [u32],
 }
 
 // What a graph may have at most: the road's limits, or the overlay's.
@@ -54,7 +61,7 @@ pub struct Limits {
 }
 
 // Why a call is refused. `number_of` in specs/ gives each its number.
-#[derive(Clone, Copy)]
+#[derive(Clone, Copy, PartialEq, Eq, Debug)]
 pub enum Refusal {
     Sizes,
     Starts,
@@ -69,11 +76,4 @@ pub enum Refusal {
     Lengths,
     Room,
     Line,
-}
-
-// What a check finds.
-#[derive(Clone, Copy)]
-pub enum Verdict {
-    Passed,
-    Refused(Refusal),
 }

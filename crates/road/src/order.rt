@@ -4,29 +4,26 @@ ghost use Rattle.road.specs.Faults.{order_fault};
 ghost use Rattle.road.specs.Limits.{most_nodes};
 ghost use Rattle.road.specs.workings.Verdicts.{Judged};
 
-use crate::counts::wide;
-use crate::{NodeCount, Refusal, Verdict};
+use crate::{NodeCount, Refusal};
 
 // Each node is marked in an array of our own, since a check changes no lent slice.
-pub fn check_order(n: NodeCount, order: &[u32]) -> Verdict
+pub fn check_order(n: NodeCount, order: &[u32]) -> Result<(), Refusal>
     requires { n.0 ≤ most_nodes }
     ensures { Judged (order_fault n.0 order.now) result }
 {
     if order.len() != n.0 {
-        return Verdict::Refused(Refusal::Order);
+        return Err(Refusal::Order);
     }
     let mut seen = [0u8; 4096];
-    let mut i = 0;
-    while i < order.len() {
-        let v = wide(order[i]);
+    for node in order {
+        let v = *node as usize;
         if n.0 <= v {
-            return Verdict::Refused(Refusal::Order);
+            return Err(Refusal::Order);
         }
         if seen[v] != 0 {
-            return Verdict::Refused(Refusal::Order);
+            return Err(Refusal::Order);
         }
         seen[v] = 1;
-        i += 1;
     }
-    Verdict::Passed
+    Ok(())
 }

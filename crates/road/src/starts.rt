@@ -3,26 +3,24 @@ ghost use Rattle.std.specs.Prelude.{◌≤◌, length};
 ghost use Rattle.road.specs.Faults.{starts_fault};
 ghost use Rattle.road.specs.workings.Verdicts.{Judged};
 
-use crate::counts::wide;
-use crate::{Refusal, Verdict};
+use crate::{Graph, Refusal};
 
-pub fn check_starts(starts: &[u32], heads: &[u32]) -> Verdict
-    requires { 2 ≤ length starts.now }
-    ensures { Judged (starts_fault starts.now heads.now) result }
+pub fn check_starts(graph: &Graph) -> Result<(), Refusal>
+    requires { 2 ≤ length graph.now.starts.now }
+    ensures { Judged (starts_fault graph.now.starts.now graph.now.heads.now) result }
 {
+    let starts = graph.starts;
+    let last = starts.len() - 1;
     if starts[0] != 0 {
-        return Verdict::Refused(Refusal::Starts);
+        return Err(Refusal::Starts);
     }
-    let mut u = 0;
-    while u < starts.len() - 1 {
+    for u in 0..last {
         if starts[u + 1] < starts[u] {
-            return Verdict::Refused(Refusal::Starts);
+            return Err(Refusal::Starts);
         }
-        u += 1;
     }
-    let last = wide(starts[starts.len() - 1]);
-    if last != heads.len() {
-        return Verdict::Refused(Refusal::Starts);
+    if starts[last] as usize != graph.heads.len() {
+        return Err(Refusal::Starts);
     }
-    Verdict::Passed
+    Ok(())
 }

@@ -1,9 +1,8 @@
 -- Check 3 on its way through the rows, and check 10 along a drive.
-use Rattle.std.specs.Prelude.{◌≡◌, List, ℕ, ◌+◌, ◌<◌, length, get_or}
+use Rattle.std.specs.Prelude.{◌≡◌, List, ℕ, ◌+◌, ◌<◌, length, get_or, Ok, Err}
 use Rattle.road.specs.declared.Limits.{Limits}
-use Rattle.road.specs.declared.Span.{Span}
-use Rattle.road.specs.declared.Verdict.{Verdict}
-use Rattle.road.specs.declared.Verdict.TheVariants.{Passed, Refused}
+use Rattle.std.specs.declared.ops.Range.{Range}
+use Rattle.road.specs.workings.Verdicts.{Verdict}
 use Rattle.road.specs.Faults.{ArcFault, arc_faults}
 use Rattle.road.specs.Refusals.{None}
 use Rattle.road.specs.Roads.{nodes_of, Owns}
@@ -11,8 +10,8 @@ use Rattle.road.specs.workings.Sound.{Rising}
 use Rattle.road.specs.Drives.{Joined, drive_fault}
 
 -- the places of tail u's arcs
-pub record RowOf (starts : List ℕ) (u : ℕ) (r : Span) : Type 0 where
-  pub first : r.first ≡ get_or starts u 0
+pub record RowOf (starts : List ℕ) (u : ℕ) (r : Range ℕ) : Type 0 where
+  pub start : r.start ≡ get_or starts u 0
   pub end : r.end ≡ get_or starts (u + 1) 0
 
 -- a place and its tail, where checks 1 and 2 passed
@@ -34,8 +33,8 @@ Clear L starts heads weights u = ClearTo L starts heads weights (get_or starts u
 
 -- a verdict on tail u's arcs, after those before them
 abbrev pub Scanned : Limits → List ℕ → List ℕ → List ℕ → ℕ → Verdict → Type 0
-Scanned L starts heads weights u Passed = Clear L starts heads weights (u + 1)
-Scanned L starts heads weights u (Refused r) = ArcFault L starts heads weights r
+Scanned L starts heads weights u (Ok _) = Clear L starts heads weights (u + 1)
+Scanned L starts heads weights u (Err r) = ArcFault L starts heads weights r
 
 -- the first i positions are without fault
 pub record Entered (starts heads drive : List ℕ) (i : ℕ) : Type 0 where
@@ -44,5 +43,5 @@ pub record Entered (starts heads drive : List ℕ) (i : ℕ) : Type 0 where
 
 -- a verdict on position i, after those before it
 abbrev pub JudgesPosition : List ℕ → List ℕ → List ℕ → ℕ → Verdict → Type 0
-JudgesPosition starts heads drive i Passed = Entered starts heads drive (i + 1)
-JudgesPosition starts heads drive i (Refused r) = drive_fault starts heads drive r
+JudgesPosition starts heads drive i (Ok _) = Entered starts heads drive (i + 1)
+JudgesPosition starts heads drive i (Err r) = drive_fault starts heads drive r

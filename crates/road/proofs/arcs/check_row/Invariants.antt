@@ -1,10 +1,7 @@
 use Rattle.road.specs.workings.Scans.{ClearTo}
 use lib.ListN.{get_or}
-use Prim.Native.Nat.{◌-◌, ◌≤◌}
+use Prim.Native.Nat.{◌≤◌}
 use Rattle.road.proofs.arcs.check_row.Given as goal
 
 abbrev pub invariant-loop-p : goal.invariant-loop-p
-invariant-loop-p l = (get_or l.starts l.tail 0 ≤ l.p) × (l.p ≤ l.end) × ClearTo l.limits l.starts l.heads l.weights l.p
-
-abbrev pub decreases-loop-p : goal.decreases-loop-p
-decreases-loop-p l = l.end - l.p
+invariant-loop-p l = (get_or l.graph.starts.now l.tail 0 ≤ l.p) × (l.p ≤ l.p-end) × ClearTo l.limits l.graph.starts.now l.graph.heads.now l.graph.weights.now l.p

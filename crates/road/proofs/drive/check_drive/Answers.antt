@@ -1,5 +1,5 @@
-use Rattle.road.proofs.Refusals.{judged_refused}
+use Rattle.road.proofs.Refusals.{refused_on}
 use Rattle.road.proofs.drive.check_drive.Goals as goal
 
-pub returns-in_default : goal.returns-in_default
-returns-in_default c = rw c.in_default.is (judged_refused (rw c.in_default.is at c.check_position-found.ensures))
+pub returns-in_err-check_position : goal.returns-in_err-check_position
+returns-in_err-check_position c = refused_on c.in_err-check_position.was c.from_residual.ensures.1 (rw c.in_err-check_position.was at c.check_position.ensures)

@@ -4,7 +4,4 @@ use Prim.Native.Nat.{◌-◌}
 use Rattle.road.proofs.drive.check_drive.Given as goal
 
 abbrev pub invariant-loop-i : goal.invariant-loop-i
-invariant-loop-i l = Entered l.starts l.heads l.drive l.i
-
-abbrev pub decreases-loop-i : goal.decreases-loop-i
-decreases-loop-i l = length l.drive - l.i
+invariant-loop-i l = Entered l.graph.starts.now l.graph.heads.now l.drive l.i

@@ -5,11 +5,11 @@ use Rattle.road.proofs.order.check_order.Goals as goal
 pub returns-then-order-n : goal.returns-then-order-n
 returns-then-order-n c = refuses (other_length _ _ c.if-order-n.true)
 
-pub loop-i-init : goal.loop-i-init
-loop-i-init c = mark_none _ _
+pub loop-node-init : goal.loop-node-init
+loop-node-init c = mark_none _ _
 
 pub returns-then-seen-v-ne0 : goal.returns-then-seen-v-ne0
-returns-then-seen-v-ne0 c = refuses (repeats _ _ _ _ c.loop-i.invariant c.loop-i-test.true (rw c.wide-v.ensures at c.if-seen-v-ne0.true))
+returns-then-seen-v-ne0 c = refuses (repeats _ _ _ _ c.loop-node.invariant c.loop-node-test.true c.if-seen-v-ne0.true)
 
 pub returns : goal.returns
-returns c = passes (λ f. f (permutes _ _ _ _ c.loop-i.invariant c.loop-i-test.false c.if-order-n.false))
+returns c = passes (λ f. f (permutes _ _ _ _ c.loop-node.invariant c.loop-node-test.false c.if-order-n.false))

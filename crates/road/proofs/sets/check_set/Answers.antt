@@ -3,5 +3,5 @@ use Rattle.road.specs.Faults.{other}
 use native.Mathlib.Omega.{arith}
 use Rattle.road.proofs.sets.check_set.Goals as goal
 
-pub returns-then-set-v-gt1 : goal.returns-then-set-v-gt1
-returns-then-set-v-gt1 c = refuses (other _ c.loop-v-test.true (λ e. omega arith) (λ e. omega arith))
+pub returns-then-byte-gt1 : goal.returns-then-byte-gt1
+returns-then-byte-gt1 c = refuses (other _ c.loop-byte-test.true (λ e. omega arith) (λ e. omega arith))

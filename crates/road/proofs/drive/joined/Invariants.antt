@@ -1,9 +1,0 @@
-use Rattle.road.proofs.Drives.{Between}
-use Prim.Native.Nat.{◌-◌}
-use Rattle.road.proofs.drive.joined.Given as goal
-
-abbrev pub invariant-loop-low : goal.invariant-loop-low
-invariant-loop-low l = Between l.starts l.heads l.u l.v l.low l.high
-
-abbrev pub decreases-loop-low : goal.decreases-loop-low
-decreases-loop-low l = l.high - l.low

@@ -1,0 +1,54 @@
+// A graph as it is lent: to be read, or to be written.
+ghost use Rattle.std.specs.Prelude.{◌≡◌, ◌+◌, ◌<◌, length};
+ghost use Rattle.road.specs.Drives.{Joined};
+ghost use Rattle.road.specs.Roads.{nodes_of};
+ghost use Rattle.road.specs.workings.Scans.{RowOf};
+ghost use Rattle.road.specs.workings.Sound.{Sorted};
+ghost use Rattle.road.specs.workings.Verdicts.{Tells};
+
+use crate::{Graph, GraphMut, NodeCount};
+use std::ops::Range;
+
+impl<'a> Graph<'a> {
+    // The number of its nodes.
+    pub fn node_count(&self) -> NodeCount
+        ensures { result.0 ≡ nodes_of self.now.starts.now }
+    {
+        NodeCount(self.starts.len().saturating_sub(1))
+    }
+
+    // The places at which the arcs with this tail stand.
+    pub fn row(&self, tail: usize) -> Range<usize>
+        requires { tail + 1 < length self.now.starts.now }
+        ensures { RowOf self.now.starts.now tail result }
+    {
+        let starts = self.starts;
+        starts[tail] as usize..starts[tail + 1] as usize
+    }
+
+    // Whether an arc leads from u to v. The heads of one tail ascend.
+    pub fn joined(&self, u: usize, v: u32) -> bool
+        requires sorted { Sorted self.now.starts.now self.now.heads.now }
+        requires u_bound { u < nodes_of self.now.starts.now }
+        ensures { Tells result (Joined self.now.starts.now self.now.heads.now u v) }
+    {
+        let Range { start, end } = self.row(u);
+        let heads = self.heads;
+        heads[start..end].binary_search(&v).is_ok()
+    }
+}
+
+impl<'a> GraphMut<'a> {
+    // What it holds now, to be read.
+    pub fn lent(&self) -> Graph<'_>
+        ensures starts { result.starts.now ≡ self.now.starts.now }
+        ensures heads { result.heads.now ≡ self.now.heads.now }
+        ensures weights { result.weights.now ≡ self.now.weights.now }
+    {
+        Graph {
+            starts: &*self.starts,
+            heads: &*self.heads,
+            weights: &*self.weights,
+        }
+    }
+}
