@@ -1,11 +1,11 @@
 -- A line's characters and its bytes.
 use mathlib.Core.Path.{◌≡◌, refl, sym, ap, subst, ◌∙◌}
-use mathlib.Core.Logic.{◌≢◌}
 use mathlib.Core.List.{List, [], ◌∷◌, ◌++◌}
-use Prim.Native.Nat.{ℕ, zero, suc, ◌+◌, ◌*◌, ◌/◌, ◌%◌, ◌≤◌, ◌<◌}
+use Prim.Native.Nat.{ℕ, zero, suc, ◌+◌, ◌-◌, ◌*◌, ◌/◌, ◌%◌, ◌≤◌, ◌<◌}
 use native.Mathlib.Omega.{arith}
 use lib.ListN.{length, get_or, take, drop, set, length-set}
 use lib.Seq.{take_all, take-suc-set}
+use Rattle.std.specs.Simd.{first_chunks}
 use Rattle.paths.specs.Lists.{Each}
 use Rattle.hexlines.proofs.Growing.{hex_text_append, hex_text_length}
 use Rattle.hexlines.specs.Text.{digit, hex_text}
@@ -62,47 +62,67 @@ text_long line bytes t = ap length t.text ∙ hex_text_length bytes
 pub too_long : (line : List ℕ) → 260 < length line → (bytes : List ℕ) → length bytes ≤ most_bytes → TextOf line bytes → ⊥
 too_long line h bytes m t = omega (arith, text_long line bytes t)
 
-pub odd : (line : List ℕ) → length line % 2 ≢ 0 → (bytes : List ℕ) → length bytes ≤ most_bytes → TextOf line bytes → ⊥
-odd line h bytes m t = h (let e = text_long line bytes t in omega arith)
+pub odd : (line : List ℕ) → 1 ≤ length line % 2 → (bytes : List ℕ) → length bytes ≤ most_bytes → TextOf line bytes → ⊥
+odd line h bytes m t = let e = text_long line bytes t in omega arith
 
-module _ (line : List ℕ) where
-  pub reading_none : (room : List ℕ) → length room ≡ most_bytes → Reading line room 0
-  reading_none room h = record { long = h; within = omega arith; text = refl; small = tt }
+-- all but the first, as a pattern gives it
+pub after_first : (l : List ℕ) → take (length l - 1) (drop 1 l) ≡ drop 1 l
+after_first [] = refl
+after_first (x ∷ l) = take_all (suc (length l) - 1) l (omega arith)
 
-  module _ (room : List ℕ) (i : ℕ) (r : Reading line room i) where
-    pub reading_more : (b : ℕ) → 2 * i + 1 < length line → i < most_bytes → DigitsOf (get_or line (2 * i) 0) (get_or line (2 * i + 1) 0) b → Reading line (set room i b) (i + 1)
-    reading_more b h k d =
-        let next : suc i ≡ i + 1 = omega arith in
-        let twice : 2 * i + 2 ≡ 2 * (i + 1) = omega arith in
-        let fits : i < length room = omega (arith, r.long) in
-        let taken : take (i + 1) (set room i b) ≡ take i room ++ (b ∷ []) = ap (λ (j : ℕ). take j (set room i b)) (sym next) ∙ take-suc-set room i b fits in
-        record {
-          long = length-set room i b ∙ r.long;
-          within = omega arith;
-          text =
-              ap (λ (j : ℕ). take j line) (sym twice) ∙ two_more line (2 * i) h ∙ (λ j. r.text j ++ (d.first j ∷ d.second j ∷ [])) ∙
-              sym (ap hex_text taken ∙ hex_text_append (take i room) (b ∷ []));
-          small = subst (Each (λ (x : ℕ). x < 256)) (sym taken) (each_more (λ (x : ℕ). x < 256) (take i room) b r.small d.byte);
-        }
+-- the two entries of a list that are its pair i
+pub record PairAt (l : List ℕ) (i : ℕ) (pair : List ℕ) : Type 0 where
+  pub within : 2 * i + 1 < length l
+  pub high : get_or pair 0 0 ≡ get_or l (2 * i) 0
+  pub low : get_or pair 1 0 ≡ get_or l (2 * i + 1) 0
 
-    pub reading_stop :
-        2 * i + 1 < length line → ((b : ℕ) → DigitsOf (get_or line (2 * i) 0) (get_or line (2 * i + 1) 0) b → ⊥) → (bytes : List ℕ) → length bytes ≤ most_bytes →
-        TextOf line bytes → ⊥
-    reading_stop h none bytes m t =
-        let k : i < length bytes = omega (arith, text_long line bytes t) in
-        none (get_or bytes i 0)
-        (record {
-          byte = each_at (λ (x : ℕ). x < 256) bytes i t.small k;
-          first = ap (λ (l : List ℕ). get_or l (2 * i) 0) t.text ∙ (hex_at bytes i k).0;
-          second = ap (λ (l : List ℕ). get_or l (2 * i + 1) 0) t.text ∙ (hex_at bytes i k).1;
-        })
+chunk_at : (l : List ℕ) (n i : ℕ) (d : List ℕ) → i < n → 2 * n ≤ length l → PairAt l i (get_or (first_chunks 2 n l) i d)
+chunk_at l zero i d h k = absurd (omega arith)
+chunk_at [] (suc n) i d h k = absurd (omega arith)
+chunk_at (x ∷ []) (suc n) i d h k = absurd (omega arith)
+chunk_at (x ∷ y ∷ l) (suc n) zero d h k = record { within = omega arith; high = refl; low = refl }
+chunk_at (x ∷ y ∷ l) (suc n) (suc i) d h k =
+    let t = chunk_at l n i d (omega arith) (omega arith) in
+    let e : suc (suc (2 * i)) ≡ 2 * suc i = omega arith in
+    let f : suc (suc (2 * i + 1)) ≡ 2 * suc i + 1 = omega arith in
+    record {
+      within = omega (arith, t.within);
+      high = t.high ∙ ap (λ (j : ℕ). get_or (x ∷ y ∷ l) j 0) e;
+      low = t.low ∙ ap (λ (j : ℕ). get_or (x ∷ y ∷ l) j 0) f;
+    }
 
-    pub reading_end : (count : ℕ) → length line ≡ 2 * count → length line ≤ 260 → count ≤ i → TextOf line (take count room) × (count ≤ most_bytes)
-    reading_end count e s h =
-        let same : i ≡ count = omega (arith, r.within) in (
-          record {
-            text = sym (take_all (2 * count) line (omega arith)) ∙ subst (λ (j : ℕ). take (2 * j) line ≡ hex_text (take j room)) same r.text;
-            small = subst (λ (j : ℕ). Each (λ (x : ℕ). x < 256) (take j room)) same r.small;
-          },
-          omega arith,
-        )
+pub pair_at :
+    (m l : List ℕ) (pairs : List (List ℕ)) (i : ℕ) (d : List ℕ) → m ≡ l → pairs ≡ first_chunks 2 (length m / 2) m → length pairs ≡ length m / 2 →
+    i < length pairs → PairAt l i (get_or pairs i d)
+pair_at m l pairs i d q e n h =
+    subst (λ (k : List ℕ). PairAt k i (get_or pairs i d)) q
+    (subst (λ (ps : List (List ℕ)). PairAt m i (get_or ps i d)) (sym e) (chunk_at m (length m / 2) i d (omega arith) (omega arith)))
+
+module _ (line room : List ℕ) (i : ℕ) (r : Reading line room i) (pair : List ℕ) (a : PairAt line i pair) where
+  pub reading_more : (b : ℕ) → i < most_bytes → DigitsOf (get_or pair 0 0) (get_or pair 1 0) b → Reading line (set room i b) (i + 1)
+  reading_more b k d =
+      let next : suc i ≡ i + 1 = omega arith in
+      let twice : 2 * i + 2 ≡ 2 * (i + 1) = omega arith in
+      let fits : i < length room = omega (arith, r.long) in
+      let taken : take (i + 1) (set room i b) ≡ take i room ++ (b ∷ []) = ap (λ (j : ℕ). take j (set room i b)) (sym next) ∙ take-suc-set room i b fits in
+      let first = sym a.high ∙ d.first in
+      let second = sym a.low ∙ d.second in
+      record {
+        long = length-set room i b ∙ r.long;
+        within = omega (arith, a.within);
+        text =
+            ap (λ (j : ℕ). take j line) (sym twice) ∙ two_more line (2 * i) a.within ∙ (λ j. r.text j ++ (first j ∷ second j ∷ [])) ∙
+            sym (ap hex_text taken ∙ hex_text_append (take i room) (b ∷ []));
+        small = subst (Each (λ (x : ℕ). x < 256)) (sym taken) (each_more (λ (x : ℕ). x < 256) (take i room) b r.small d.byte);
+      }
+
+  pub reading_stop :
+      ((b : ℕ) → DigitsOf (get_or pair 0 0) (get_or pair 1 0) b → ⊥) → (bytes : List ℕ) → length bytes ≤ most_bytes → TextOf line bytes → ⊥
+  reading_stop none bytes m t =
+      let k : i < length bytes = omega (arith, text_long line bytes t, a.within) in
+      none (get_or bytes i 0)
+      (record {
+        byte = each_at (λ (x : ℕ). x < 256) bytes i t.small k;
+        first = a.high ∙ ap (λ (l : List ℕ). get_or l (2 * i) 0) t.text ∙ (hex_at bytes i k).0;
+        second = a.low ∙ ap (λ (l : List ℕ). get_or l (2 * i + 1) 0) t.text ∙ (hex_at bytes i k).1;
+      })

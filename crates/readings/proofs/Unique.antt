@@ -5,9 +5,10 @@ use mathlib.Core.List.{List, [], ◌∷◌, ◌++◌}
 use Prim.Native.Nat.{ℕ, ◌/◌, ◌%◌, ◌<◌}
 use native.Mathlib.Omega.{arith}
 use lib.ListN.{length, get_or, drop}
+use Rattle.std.specs.Prelude.{Option, Some, None}
 use Rattle.paths.specs.Lists.{Each}
 use Rattle.readings.specs.declared.Line.{Line}
-use Rattle.readings.specs.declared.Line.TheVariants.{Head, Arc, Question, Drive, Wrong}
+use Rattle.readings.specs.declared.Line.TheVariants.{Head, Arc, Question, Drive}
 use Rattle.readings.specs.Frames.{Frame, head, arc, question, drive, bytes_of, twos, Fits, ReadAs, Reads, Tells}
 use Rattle.readings.proofs.Shapes.{small_bytes}
 use Rattle.readings.proofs.Texts.{text_one}
@@ -91,35 +92,35 @@ leaves (arc t h w) nodes = nodes
 leaves (question a b) nodes = nodes
 leaves (drive l) nodes = l ++ drop (length l) nodes
 
-record ToldFrame (P : Frame → Type 0) (told : Line) (nodes nodes' : List ℕ) : Type 0 where
+record ToldFrame (P : Frame → Type 0) (told : Option Line) (nodes nodes' : List ℕ) : Type 0 where
   pub frame : Frame
   pub holds : P frame
-  pub line : told ≡ line_of frame
+  pub line : told ≡ Some (line_of frame)
   pub left : nodes' ≡ leaves frame nodes
 
-record ToldNone (P : Frame → Type 0) (told : Line) (nodes nodes' : List ℕ) : Type 0 where
+record ToldNone (P : Frame → Type 0) (told : Option Line) (nodes nodes' : List ℕ) : Type 0 where
   pub none : (f : Frame) → P f → ⊥
-  pub line : told ≡ Wrong
+  pub line : told ≡ None
   pub left : nodes' ≡ nodes
 
 module _ {P : Frame → Type 0} {nodes : List ℕ} where
-  either : (told : Line) (nodes' : List ℕ) → Tells P told nodes nodes' → ToldFrame P told nodes nodes' ⊎ ToldNone P told nodes nodes'
-  either (Head n m k) nodes' t = inl (record { frame = head n.0 m.0 k.0; holds = t.0; line = refl; left = t.1 })
-  either (Arc a h w) nodes' t = inl (record { frame = arc a h w; holds = t.0; line = refl; left = t.1 })
-  either (Question a b) nodes' t = inl (record { frame = question a b; holds = t.0; line = refl; left = t.1 })
-  either (Drive c) nodes' t = inl (record { frame = drive t.0; holds = t.1; line = ap Drive t.2; left = t.3 })
-  either Wrong nodes' t = inr (record { none = t.0; line = refl; left = t.1 })
+  either : (told : Option Line) (nodes' : List ℕ) → Tells P told nodes nodes' → ToldFrame P told nodes nodes' ⊎ ToldNone P told nodes nodes'
+  either (Some (Head n m k)) nodes' t = inl (record { frame = head n.0 m.0 k.0; holds = t.0; line = refl; left = t.1 })
+  either (Some (Arc a h w)) nodes' t = inl (record { frame = arc a h w; holds = t.0; line = refl; left = t.1 })
+  either (Some (Question a b)) nodes' t = inl (record { frame = question a b; holds = t.0; line = refl; left = t.1 })
+  either (Some (Drive c)) nodes' t = inl (record { frame = drive t.0; holds = t.1; line = ap (λ (n : ℕ). Some (Drive n)) t.2; left = t.3 })
+  either None nodes' t = inr (record { none = t.0; line = refl; left = t.1 })
 
   told_one :
-      (one : (f g : Frame) → P f → P g → f ≡ g) {told told' : Line} {a b : List ℕ} → ToldFrame P told nodes a ⊎ ToldNone P told nodes a →
+      (one : (f g : Frame) → P f → P g → f ≡ g) {told told' : Option Line} {a b : List ℕ} → ToldFrame P told nodes a ⊎ ToldNone P told nodes a →
       ToldFrame P told' nodes b ⊎ ToldNone P told' nodes b → (told ≡ told') × (a ≡ b)
   told_one one (inl x) (inl y) =
       let e = one x.frame y.frame x.holds y.holds in
-      (x.line ∙ ap line_of e ∙ sym y.line, x.left ∙ ap (λ (f : Frame). leaves f nodes) e ∙ sym y.left)
+      (x.line ∙ ap (λ (f : Frame). Some (line_of f)) e ∙ sym y.line, x.left ∙ ap (λ (f : Frame). leaves f nodes) e ∙ sym y.left)
   told_one one (inl x) (inr y) = absurd (y.none x.frame x.holds)
   told_one one (inr x) (inl y) = absurd (x.none y.frame y.holds)
   told_one one (inr x) (inr y) = (x.line ∙ sym y.line, x.left ∙ sym y.left)
 
 -- two readings of one line are equal: what is told, and what the slice then holds
-pub reads_one : (line : List ℕ) (told told' : Line) (nodes a b : List ℕ) → Reads line told nodes a → Reads line told' nodes b → (told ≡ told') × (a ≡ b)
+pub reads_one : (line : List ℕ) (told told' : Option Line) (nodes a b : List ℕ) → Reads line told nodes a → Reads line told' nodes b → (told ≡ told') × (a ≡ b)
 reads_one line told told' nodes a b r s = told_one (read_one (length nodes) line) (either told a r.tells) (either told' b s.tells)

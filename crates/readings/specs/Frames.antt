@@ -1,10 +1,10 @@
 -- The lines that the program reads.
-use Rattle.std.specs.Prelude.{◌≡◌, List, [], ◌∷◌, ◌++◌, ℕ, ◌≤◌, ◌<◌, ◌^◌, length, drop}
+use Rattle.std.specs.Prelude.{◌≡◌, Option, Some, None, List, [], ◌∷◌, ◌++◌, ℕ, ◌≤◌, ◌<◌, ◌^◌, length, drop}
 use Rattle.paths.specs.Lists.{Each}
 use Rattle.hexlines.specs.Outputs.{one, two, four}
 use Rattle.hexlines.specs.Text.{hex_text}
 use Rattle.readings.specs.declared.Line.{Line}
-use Rattle.readings.specs.declared.Line.TheVariants.{Head, Arc, Question, Drive, Wrong}
+use Rattle.readings.specs.declared.Line.TheVariants.{Head, Arc, Question, Drive}
 
 -- what a line says: n, m and k; an arc's tail, head and weight; a question's two nodes; a drive's nodes
 pub data Frame : Type 0 where
@@ -47,13 +47,13 @@ pub record ReadAs (room : ℕ) (line : List ℕ) (f : Frame) : Type 0 where
 
 -- what the code tells of the frames of which P holds, and what it leaves in the slice for a drive's nodes: the frame of which P holds,
 -- a drive's nodes standing at the front of the slice; or that P holds of none
-abbrev pub Tells : (Frame → Type 0) → Line → List ℕ → List ℕ → Type 0
-Tells P (Head n m k) nodes nodes' = P (head n.0 m.0 k.0) × (nodes' ≡ nodes)
-Tells P (Arc t h w) nodes nodes' = P (arc t h w) × (nodes' ≡ nodes)
-Tells P (Question a b) nodes nodes' = P (question a b) × (nodes' ≡ nodes)
-Tells P (Drive count) nodes nodes' = (l : List ℕ) × (P (drive l)) × (count ≡ length l) × (nodes' ≡ l ++ drop (length l) nodes)
-Tells P Wrong nodes nodes' = ((f : Frame) → P f → ⊥) × (nodes' ≡ nodes)
+abbrev pub Tells : (Frame → Type 0) → Option Line → List ℕ → List ℕ → Type 0
+Tells P (Some (Head n m k)) nodes nodes' = P (head n.0 m.0 k.0) × (nodes' ≡ nodes)
+Tells P (Some (Arc t h w)) nodes nodes' = P (arc t h w) × (nodes' ≡ nodes)
+Tells P (Some (Question a b)) nodes nodes' = P (question a b) × (nodes' ≡ nodes)
+Tells P (Some (Drive count)) nodes nodes' = (l : List ℕ) × (P (drive l)) × (count ≡ length l) × (nodes' ≡ l ++ drop (length l) nodes)
+Tells P None nodes nodes' = ((f : Frame) → P f → ⊥) × (nodes' ≡ nodes)
 
 -- what is read of a line, a slice being lent for a drive's nodes
-pub record Reads (line : List ℕ) (told : Line) (nodes nodes' : List ℕ) : Type 0 where
+pub record Reads (line : List ℕ) (told : Option Line) (nodes nodes' : List ℕ) : Type 0 where
   pub tells : Tells (ReadAs (length nodes) line) told nodes nodes'

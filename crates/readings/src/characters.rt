@@ -1,63 +1,39 @@
 // From the characters of a line to its bytes.
-ghost use Rattle.std.specs.Prelude.{◌≡◌, length};
-ghost use Rattle.readings.specs.workings.Readings.{Valued, ReadsPair, ReadsText, most_bytes};
+ghost use Rattle.readings.specs.workings.Readings.{Valued, ReadsPair, ReadsText};
 
-use crate::{Pair, Text};
+// The most bytes that a frame has: 64 nodes of two bytes, their count, and the frame's kind.
+pub const MOST_BYTES: usize = 130;
 
-// The number of an upper-case digit, or 16.
-fn value(char: u8) -> u8
+// The number of an upper-case digit.
+fn value(char: u8) -> Option<u8>
     ensures { Valued char result }
 {
-    if char < 48 {
-        return 16;
+    match char {
+        b'0'..=b'9' => Some(char - b'0'),
+        b'A'..=b'F' => Some(char - b'A' + 10),
+        _ => None,
     }
-    if char < 58 {
-        return char - 48;
-    }
-    if char < 65 {
-        return 16;
-    }
-    if char < 71 {
-        return char - 55;
-    }
-    16
 }
 
 // The byte of two digits, the high one first.
-fn read_pair(high: u8, low: u8) -> Pair
+fn read_pair(high: u8, low: u8) -> Option<u8>
     ensures { ReadsPair high low result }
 {
-    let h = value(high);
-    let l = value(low);
-    if 16 <= h {
-        return Pair::NoByte;
-    }
-    if 16 <= l {
-        return Pair::NoByte;
-    }
-    Pair::Byte(h * 16 + l)
+    Some(value(high)? * 16 + value(low)?)
 }
 
-// Reads the line's bytes into the room. No frame has more than 130.
-pub fn read_text(line: &[u8], room: &mut [u8]) -> Text
-    requires { length room.old ≡ most_bytes }
+// Reads the line's bytes into the room, and says how many they are.
+pub fn read_text(line: &[u8], room: &mut [u8; MOST_BYTES]) -> Option<usize>
     ensures { ReadsText line.now result room.new }
 {
-    if 260 < line.len() {
-        return Text::NoBytes;
+    let (pairs, []) = line.as_chunks::<2>() else {
+        return None;
+    };
+    if room.len() < pairs.len() {
+        return None;
     }
-    if line.len() % 2 != 0 {
-        return Text::NoBytes;
+    for (i, &[high, low]) in pairs.iter().enumerate() {
+        room[i] = read_pair(high, low)?;
     }
-    let count = line.len() / 2;
-    let mut i = 0;
-    while i < count {
-        let pair = read_pair(line[2 * i], line[2 * i + 1]);
-        let Pair::Byte(b) = pair else {
-            return Text::NoBytes;
-        };
-        room[i] = b;
-        i += 1;
-    }
-    Text::Bytes(count)
+    Some(pairs.len())
 }

@@ -8,26 +8,11 @@ pub use bytes::read_line;
 use road::{ArcCount, NodeCount};
 
 // What a line says: n, m and k; an arc's tail, head and weight; a question's two nodes; how many
-// nodes a drive has. A line of another shape, or with a number over a limit of the program, is wrong.
+// nodes a drive has.
 #[derive(Clone, Copy)]
 pub enum Line {
     Head(NodeCount, ArcCount, NodeCount),
     Arc(u32, u32, u32),
     Question(u32, u32),
     Drive(usize),
-    Wrong,
-}
-
-// Two characters: the byte whose digits they are, or none.
-#[derive(Clone, Copy)]
-pub enum Pair {
-    Byte(u8),
-    NoByte,
-}
-
-// A line's characters: how many bytes they are the digits of, or none.
-#[derive(Clone, Copy)]
-pub enum Text {
-    Bytes(usize),
-    NoBytes,
 }

@@ -1,18 +1,15 @@
 -- Reading on its way: from a digit to its number, from the text to its bytes, from the bytes to the frame.
-use Rattle.std.specs.Prelude.{◌≡◌, List, ◌∷◌, ℕ, ◌+◌, ◌*◌, ◌/◌, ◌%◌, ◌≤◌, ◌<◌, length, get_or, take, drop}
+use Rattle.std.specs.Prelude.{◌≡◌, Option, Some, None, List, [], ◌∷◌, ℕ, ◌^◌, ◌*◌, ◌/◌, ◌%◌, ◌≤◌, ◌<◌, length, take, drop}
 use Rattle.paths.specs.Lists.{Each}
+use Rattle.hexlines.specs.Outputs.{two}
 use Rattle.hexlines.specs.Text.{digit, hex_text}
 use Rattle.readings.specs.declared.Line.{Line}
-use Rattle.readings.specs.declared.Pair.{Pair}
-use Rattle.readings.specs.declared.Pair.TheVariants.{Byte, NoByte}
-use Rattle.readings.specs.declared.Text.{Text}
-use Rattle.readings.specs.declared.Text.TheVariants.{Bytes, NoBytes}
 use Rattle.readings.specs.Frames.{Tells, twos, Frame, bytes_of, Fits, Taken}
 
--- the number of a digit, or a number of 16 or more where the character is no digit
-pub record Valued (char number : ℕ) : Type 0 where
-  pub is : number < 16 → char ≡ digit number
-  pub none : 16 ≤ number → (d : ℕ) → d < 16 → char ≡ digit d → ⊥
+-- the number of a digit, or none where the character is no digit
+abbrev pub Valued : ℕ → Option ℕ → Type 0
+Valued char (Some number) = (number < 16) × (char ≡ digit number)
+Valued char None = (d : ℕ) → d < 16 → char ≡ digit d → ⊥
 
 -- the two characters are the digits of byte b
 pub record DigitsOf (high low b : ℕ) : Type 0 where
@@ -20,9 +17,9 @@ pub record DigitsOf (high low b : ℕ) : Type 0 where
   pub first : high ≡ digit (b / 16)
   pub second : low ≡ digit (b % 16)
 
-abbrev pub ReadsPair : ℕ → ℕ → Pair → Type 0
-ReadsPair high low (Byte b) = DigitsOf high low b
-ReadsPair high low NoByte = (b : ℕ) → DigitsOf high low b → ⊥
+abbrev pub ReadsPair : ℕ → ℕ → Option ℕ → Type 0
+ReadsPair high low (Some b) = DigitsOf high low b
+ReadsPair high low None = (b : ℕ) → DigitsOf high low b → ⊥
 
 -- the line is the text of these bytes
 pub record TextOf (line bytes : List ℕ) : Type 0 where
@@ -33,11 +30,11 @@ pub record TextOf (line bytes : List ℕ) : Type 0 where
 abbrev pub most_bytes : ℕ
 most_bytes = 130
 
-abbrev pub TextTold : List ℕ → Text → List ℕ → Type 0
-TextTold line (Bytes count) room = TextOf line (take count room) × (count ≤ most_bytes)
-TextTold line NoBytes room = (bytes : List ℕ) → length bytes ≤ most_bytes → TextOf line bytes → ⊥
+abbrev pub TextTold : List ℕ → Option ℕ → List ℕ → Type 0
+TextTold line (Some count) room = TextOf line (take count room) × (count ≤ most_bytes)
+TextTold line None room = (bytes : List ℕ) → length bytes ≤ most_bytes → TextOf line bytes → ⊥
 
-pub record ReadsText (line : List ℕ) (told : Text) (room : List ℕ) : Type 0 where
+pub record ReadsText (line : List ℕ) (told : Option ℕ) (room : List ℕ) : Type 0 where
   pub tells : TextTold line told room
 
 -- the loop over the pairs, once those before i are read into the room
@@ -47,11 +44,10 @@ pub record Reading (line room : List ℕ) (i : ℕ) : Type 0 where
   pub text : take (2 * i) line ≡ hex_text (take i room)
   pub small : Each (λ (b : ℕ). b < 256) (take i room)
 
--- the number in the two bytes from place p on
-pub record TwoAt (bytes : List ℕ) (p number : ℕ) : Type 0 where
-  pub high : get_or bytes p 0 < 256
-  pub low : get_or bytes (p + 1) 0 < 256
-  pub value : number ≡ 256 * get_or bytes p 0 + get_or bytes (p + 1) 0
+-- the number in two bytes, high byte first
+pub record TwoOf (high low number : ℕ) : Type 0 where
+  pub small : number < 2 ^ 16
+  pub bytes : high ∷ low ∷ [] ≡ two number
 
 -- the bytes are those of the frame
 pub record BytesAs (room : ℕ) (bytes : List ℕ) (f : Frame) : Type 0 where
@@ -60,16 +56,16 @@ pub record BytesAs (room : ℕ) (bytes : List ℕ) (f : Frame) : Type 0 where
   pub taken : Taken room f
 
 -- the line that is told for these bytes; the slice for nodes is left as it was
-pub record TellsFixed (bytes : List ℕ) (told : Line) : Type 0 where
+pub record TellsFixed (bytes : List ℕ) (told : Option Line) : Type 0 where
   pub tells : (nodes : List ℕ) → Tells (BytesAs (length nodes) bytes) told nodes nodes
 
 -- the line that is told for these bytes, and the slice for nodes
-pub record TellsFrame (bytes : List ℕ) (told : Line) (nodes nodes' : List ℕ) : Type 0 where
+pub record TellsFrame (bytes : List ℕ) (told : Option Line) (nodes nodes' : List ℕ) : Type 0 where
   pub tells : Tells (BytesAs (length nodes) bytes) told nodes nodes'
 
--- a drive's nodes, once the first i are in the slice: the bytes are 48, the count, and those nodes' so far
+-- a drive's nodes, once those of the first i pairs of bytes are in the slice
 pub record NodesRead (bytes nodes : List ℕ) (i : ℕ) (nodes' : List ℕ) : Type 0 where
   pub long : length nodes' ≡ length nodes
-  pub front : take (2 + 2 * i) bytes ≡ get_or bytes 0 0 ∷ get_or bytes 1 0 ∷ twos (take i nodes')
-  pub small : Each (λ (v : ℕ). v < 65536) (take i nodes')
+  pub front : take (2 * i) bytes ≡ twos (take i nodes')
+  pub small : Each (λ (v : ℕ). v < 2 ^ 16) (take i nodes')
   pub rest : drop i nodes' ≡ drop i nodes

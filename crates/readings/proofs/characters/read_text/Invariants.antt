@@ -1,9 +1,5 @@
 use Rattle.readings.specs.workings.Readings.{Reading}
-use Prim.Native.Nat.{◌-◌}
 use Rattle.readings.proofs.characters.read_text.Given as goal
 
 abbrev pub invariant-loop-i : goal.invariant-loop-i
 invariant-loop-i l = Reading l.line l.room l.i
-
-abbrev pub decreases-loop-i : goal.decreases-loop-i
-decreases-loop-i l = l.count - l.i
