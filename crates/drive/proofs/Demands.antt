@@ -21,8 +21,8 @@ use Rattle.cover.specs.Calls as covering
 use Rattle.rule.specs.Promise.{Covers}
 use Rattle.rule.specs.Rule.{PathOf}
 use Rattle.cover.proofs.Demands as covers
-use Rattle.drive.specs.declared.ThinAnswer.{ThinAnswer}
-use Rattle.drive.specs.declared.ThinAnswer.TheVariants.{Thinned, Refused}
+use Rattle.std.specs.Prelude.{Result, Ok, Err}
+use Rattle.drive.specs.declared.PositionCount.{PositionCount}
 use Rattle.drive.specs.Calls.{Outcome, refused, thinned, faults_of, said_of}
 use Rattle.drive.specs.Promise.{stretch, Includes, KeepsSet}
 use Rattle.drive.specs.Thinning.{IsDrive, ThinnedDrive}
@@ -31,11 +31,11 @@ use Rattle.drive.proofs.Unique.{thinned_one}
 use Rattle.drive.proofs.Rows.{row_kept, stretch_path}
 
 -- what is said loses nothing of the answer
-pub said_one : (a b : ThinAnswer) → said_of a ≡ said_of b → a ≡ b
-said_one (Thinned c) (Thinned d) e = ap (λ (n : ℕ). Thinned (record { 0 = n })) (ap (λ (x : Said). get_or x.values 0 0) e)
-said_one (Thinned c) (Refused r) e = absurd (refusal_no_answer r (c.0 ∷ []) (sym e))
-said_one (Refused r) (Thinned c) e = absurd (refusal_no_answer r (c.0 ∷ []) e)
-said_one (Refused r) (Refused s) e = ap Refused (refusal_one r s e)
+pub said_one : (a b : Result PositionCount Refusal) → said_of a ≡ said_of b → a ≡ b
+said_one (Ok c) (Ok d) e = ap (λ (n : ℕ). Ok (record { 0 = n })) (ap (λ (x : Said). get_or x.values 0 0) e)
+said_one (Ok c) (Err r) e = absurd (refusal_no_answer r (c.0 ∷ []) (sym e))
+said_one (Err r) (Ok c) e = absurd (refusal_no_answer r (c.0 ∷ []) e)
+said_one (Err r) (Err s) e = ap Err (refusal_one r s e)
 
 module _ (starts heads weights bytes drive positions : List ℕ) where
   all_singles : Singles (faults_of starts heads weights bytes drive positions)
@@ -66,7 +66,7 @@ module _ {starts heads weights bytes drive positions : List ℕ} where
 
   -- and so are two answers
   pub answer_one :
-      (a b : ThinAnswer) {after after' : List ℕ} → Outcome starts heads weights bytes drive positions (said_of a) after → Outcome starts heads weights bytes drive positions (said_of b) after' →
+      (a b : Result PositionCount Refusal) {after after' : List ℕ} → Outcome starts heads weights bytes drive positions (said_of a) after → Outcome starts heads weights bytes drive positions (said_of b) after' →
       (a ≡ b) × (after ≡ after')
   answer_one a b o p = let e = outcome_one o p in (said_one a b e.0, e.1)
 

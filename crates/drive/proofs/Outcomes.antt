@@ -7,21 +7,22 @@ use native.Mathlib.Decide.{ℕ_discrete, dec_lt, dec_le}
 use native.Mathlib.Omega.{arith}
 use lib.ListN.{length, get_or, drop}
 use Rattle.road.specs.declared.Refusal.{Refusal}
-use Rattle.road.specs.declared.Verdict.{Verdict}
-use Rattle.road.specs.declared.Verdict.TheVariants.{Passed, Refused}
+use Rattle.std.specs.Prelude.{Result, Ok, Err}
+use Rattle.std.specs.Result.{IsErrAnd}
 use Rattle.road.specs.Chains.{drive_faults}
 use Rattle.road.specs.Drives.{Joined, BadDrive, none, many, outside, apart}
 use Rattle.road.specs.Faults.{length_fault}
 use Rattle.road.specs.Limits.{most_drive, road_limits}
-use Rattle.road.specs.Refusals.{None, refusal, answer}
+use Rattle.road.specs.Refusals.{None, Said, refusal, answer}
 use Rattle.road.specs.workings.Left.{DriveLeft}
 use Rattle.road.proofs.Left.{drive_left}
-use Rattle.road.specs.workings.Verdicts.{Judged, Judges}
+use Rattle.road.specs.workings.Verdicts.{Verdict, Judged, Judges}
 use Rattle.road.specs.Roads.{nodes_of, Owns}
 use Rattle.road.specs.workings.Sound.{Sound}
 use Rattle.road.proofs.Faults.{not_over, not_unlike}
 use Rattle.road.proofs.Refusals.{judged_alone, stops, goes_on, unheld}
-use Rattle.drive.specs.Calls.{Outcome, refused, thinned, faults_of}
+use Rattle.drive.specs.declared.PositionCount.{PositionCount}
+use Rattle.drive.specs.Calls.{Outcome, refused, thinned, faults_of, said_of}
 use Rattle.drive.specs.Thinning.{IsDrive}
 use Rattle.drive.specs.workings.Picking.{Fits, Picking}
 use Rattle.drive.proofs.Picks.{picking_end}
@@ -96,20 +97,29 @@ module _ (starts heads weights bytes drive : List ℕ) (n : None (drive_faults s
         room = e;
       }
 
+-- what `?` hands on says the refusal
+handed_said : (w : Result PositionCount Refusal) (r : Refusal) → IsErrAnd w (λ s. s ≡ r) → said_of w ≡ refusal r
+handed_said (Ok x) r h = elim h [ ]
+handed_said (Err s) r h = ap refusal h
+
 -- From the checks to the outcome.
 module _ (starts heads weights bytes drive positions : List ℕ) where
   pub refused_early :
-      (v : Verdict) (r : Refusal) → Judges (drive_faults starts heads weights bytes drive) v → v ≡ Refused r → Outcome starts heads weights bytes drive positions (refusal r) positions
-  refused_early v r j e = refused ((stops (drive_faults starts heads weights bytes drive) (length_fault (length positions) (length drive) ∷ []) e j).refused r e)
+      (v : Verdict) (r : Refusal) (w : Result PositionCount Refusal) → Judges (drive_faults starts heads weights bytes drive) v → v ≡ Err r → IsErrAnd w (λ s. s ≡ r) →
+      Outcome starts heads weights bytes drive positions (said_of w) positions
+  refused_early v r w j e h =
+      subst (λ (s : Said). Outcome starts heads weights bytes drive positions s positions) (sym (handed_said w r h))
+      (refused ((stops (drive_faults starts heads weights bytes drive) (length_fault (length positions) (length drive) ∷ []) e j).refused r e))
 
-  module _ (u : Verdict) (j : Judges (drive_faults starts heads weights bytes drive) u) (p : u ≡ Passed) (v : Verdict) (l : Judged (length_fault (length positions) (length drive)) v) where
+  module _ (u : Verdict) (j : Judges (drive_faults starts heads weights bytes drive) u) (p : u ≡ Ok tt) (v : Verdict) (l : Judged (length_fault (length positions) (length drive)) v) where
     all_judged : Judges (faults_of starts heads weights bytes drive positions) v
     all_judged = goes_on (drive_faults starts heads weights bytes drive) (length_fault (length positions) (length drive) ∷ []) p j (judged_alone l)
 
-    pub refused_late : (r : Refusal) → v ≡ Refused r → Outcome starts heads weights bytes drive positions (refusal r) positions
-    refused_late r e = refused (all_judged.refused r e)
+    pub refused_late : (r : Refusal) (w : Result PositionCount Refusal) → v ≡ Err r → IsErrAnd w (λ s. s ≡ r) → Outcome starts heads weights bytes drive positions (said_of w) positions
+    refused_late r w e h =
+        subst (λ (s : Said). Outcome starts heads weights bytes drive positions s positions) (sym (handed_said w r h)) (refused (all_judged.refused r e))
 
-    module _ (q : v ≡ Passed) where
+    module _ (q : v ≡ Ok tt) where
       pub fits : Fits bytes drive positions
       fits = input_fits starts heads weights bytes drive (j.passed p) positions (not_unlike (length positions) (length drive) (unheld (l.passed q)))
 

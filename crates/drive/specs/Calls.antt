@@ -1,17 +1,16 @@
 -- The thinning call: what it says, and what it leaves.
-use Rattle.std.specs.Prelude.{List, [], ◌∷◌, ◌++◌, ℕ, length, drop}
+use Rattle.std.specs.Prelude.{List, [], ◌∷◌, ◌++◌, ℕ, length, drop, Result, Ok, Err}
 use Rattle.road.specs.declared.Refusal.{Refusal}
 use Rattle.road.specs.Chains.{drive_faults}
 use Rattle.road.specs.Faults.{length_fault}
 use Rattle.road.specs.Refusals.{Fault, First, None, Said, refusal, answer}
-use Rattle.drive.specs.declared.ThinAnswer.{ThinAnswer}
-use Rattle.drive.specs.declared.ThinAnswer.TheVariants.{Thinned, Refused}
+use Rattle.drive.specs.declared.PositionCount.{PositionCount}
 use Rattle.drive.specs.Thinning.{ThinnedDrive}
 
 -- the number and the values of each answer: the count of the positions kept, or a refusal's number alone
-abbrev pub said_of : ThinAnswer → Said
-said_of (Thinned c) = answer (c.0 ∷ [])
-said_of (Refused r) = refusal r
+abbrev pub said_of : Result PositionCount Refusal → Said
+said_of (Ok c) = answer (c.0 ∷ [])
+said_of (Err r) = refusal r
 
 -- the faults in order: 1 2 3 6 10 11
 abbrev pub faults_of : List ℕ → List ℕ → List ℕ → List ℕ → List ℕ → List ℕ → List Fault

@@ -5,16 +5,8 @@ mod calls;
 mod picking;
 
 pub use calls::thin;
-use road::Refusal;
 
 // A count of a drive's positions. It is neither a count of nodes, since a drive may come back to a
 // node, nor one of arcs.
 #[derive(Clone, Copy)]
 pub struct PositionCount(pub usize);
-
-// What the thinning call says. `said_of` in specs/ gives each its number and values.
-#[derive(Clone, Copy)]
-pub enum ThinAnswer {
-    Thinned(PositionCount),
-    Refused(Refusal),
-}

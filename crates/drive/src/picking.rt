@@ -1,23 +1,8 @@
 // The pass over a drive that picks the positions to keep.
-ghost use Rattle.std.specs.Prelude.{◌<◌, length, get_or};
-ghost use Rattle.road.specs.workings.Verdicts.{Tells};
+ghost use Rattle.std.specs.Prelude.{length};
 ghost use Rattle.drive.specs.workings.Picking.{Fits, Picking};
-ghost use Rattle.drive.specs.Thinning.{Kept};
 
 use crate::PositionCount;
-use road::wide;
-
-// Whether position i is kept.
-fn is_kept(set: &[u8], drive: &[u32], i: usize) -> bool
-    requires i_in_bounds { i < length drive.now }
-    requires i_in_bounds_2 { get_or drive.now i 0 < length set.now }
-    ensures { Tells result (Kept set.now drive.now i) }
-{
-    if set[wide(drive[i])] == 1 {
-        return true;
-    }
-    false
-}
 
 // Writes the kept positions from the front on, ascending, and gives their count.
 pub fn pick(set: &[u8], drive: &[u32], positions: &mut [u32]) -> PositionCount
@@ -25,13 +10,12 @@ pub fn pick(set: &[u8], drive: &[u32], positions: &mut [u32]) -> PositionCount
     ensures { Picking set.now drive.now positions.old (length drive.now) positions.new result.0 }
 {
     let mut count = 0;
-    let mut i = 0;
-    while i < drive.len() {
-        if is_kept(set, drive, i) {
+    for (i, node) in drive.iter().enumerate() {
+        let kept = set[*node as usize] == 1;
+        if kept {
             positions[count] = i as u32;
             count += 1;
         }
-        i += 1;
     }
     PositionCount(count)
 }
