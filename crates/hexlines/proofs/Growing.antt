@@ -124,26 +124,25 @@ module _ (w : Writer) (ns : List ℕ) (h : w.at + 2 * length ns < length w.buf.n
     pub ones_room : v.at + 1 < length v.buf.now
     ones_room = writes_room w (ones ns) p v ones_fit (omega (arith, ones_length ns)) a
 
-    pub ones_more : (u : Writer) → u ≡ grown v (get_or ns p 0 % 256) → Writes w (hex_text (take (p + 1) (ones ns))) u
-    ones_more u e =
-        writes_more w (ones ns) p v u ones_fit (omega (arith, ones_length ns)) a (e ∙ ap (grown v) (sym (ones_at ns p)))
+    pub ones_more : (u : Writer) (b : ℕ) → b ≡ get_or ns p 0 % 256 → u ≡ grown v b → Writes w (hex_text (take (p + 1) (ones ns))) u
+    ones_more u b q e =
+        writes_more w (ones ns) p v u ones_fit (omega (arith, ones_length ns)) a (e ∙ ap (grown v) (q ∙ sym (ones_at ns p)))
 
 -- two bytes, the numbers, and the line feed
-module _ (w : Writer) (ns : List ℕ) (h : w.at + 2 * length ns + 5 ≤ length w.buf.now) (v : Writer) (a : Writes w (hex_text (176 ∷ one (length ns))) v) where
+module _ (w : Writer) (ns : List ℕ) (h : w.at + 2 * length ns + 5 ≤ length w.buf.now) (v : Writer) (b : ℕ) (a : Writes w (hex_text (176 ∷ b ∷ [])) v) where
   pub kept_fits : v.at + 2 * length ns < length v.buf.now
-  kept_fits = let next = a.wrote.next in omega (arith, writes_long w (hex_text (176 ∷ one (length ns))) v a)
+  kept_fits = let next = a.wrote.next in omega (arith, writes_long w (hex_text (176 ∷ b ∷ [])) v a)
 
-  module _ (p : ℕ) (e : p ≡ length ns) (u : Writer) (b : Writes v (hex_text (take p (ones ns))) u) where
+  module _ (p : ℕ) (e : p ≡ length ns) (u : Writer) (c : Writes v (hex_text (take p (ones ns))) u) where
     kept_written : Writes v (hex_text (ones ns)) u
-    kept_written = writes_all v (ones ns) p u (e ∙ sym (ones_length ns)) b
+    kept_written = writes_all v (ones ns) p u (e ∙ sym (ones_length ns)) c
 
     pub kept_room : u.at < length u.buf.now
     kept_room = writes_end v (ones ns) u (omega (arith, ones_length ns, kept_fits)) kept_written
 
-    pub writes_kept : (t : Writer) → Writes u (10 ∷ []) t → Writes w (out_text (kept ns)) t
-    writes_kept t c =
-        let first : List ℕ = 176 ∷ one (length ns) in
-        writes_then w (hex_text (first ++ ones ns)) u (10 ∷ []) t
-        (subst (λ (ts : List ℕ). Writes w ts u) (sym (hex_text_append first (ones ns)))
-        (writes_then w (hex_text first) v (hex_text (ones ns)) u a kept_written))
-        c
+    pub writes_kept : (t : Writer) → b ≡ length ns % 256 → Writes u (10 ∷ []) t → Writes w (out_text (kept ns)) t
+    writes_kept t q d =
+        writes_then w (hex_text (176 ∷ one (length ns) ++ ones ns)) u (10 ∷ []) t
+        (subst (λ (k : ℕ). Writes w (hex_text (176 ∷ k ∷ ones ns)) u) q
+        (writes_then w (hex_text (176 ∷ b ∷ [])) v (hex_text (ones ns)) u a kept_written))
+        d

@@ -71,9 +71,11 @@ impl Writer<'_> {
         requires { self.old.at + 2 * length positions.now + 5 ≤ length self.old.buf.now }
         ensures { Writes self.old (out_text (kept positions.now)) self.new }
     {
-        self.bytes(&[0xB0, (positions.len() % 256) as u8]);
+        let [.., count] = positions.len().to_be_bytes();
+        self.bytes(&[0xB0, count]);
         for p in positions {
-            self.byte((*p % 256) as u8);
+            let [.., low] = p.to_be_bytes();
+            self.byte(low);
         }
         self.feed();
     }

@@ -5,6 +5,7 @@ use Prim.Native.Nat.{ℕ, suc, ◌+◌, ◌*◌, ◌/◌, ◌%◌, ◌^◌, ◌�
 use native.Mathlib.Omega.{arith}
 use lib.ListN.{length, get_or, take, drop, set, length-set}
 use lib.Seq.{take-suc-set, drop-set-lt, drop-drop}
+use denote.Ref.{Bor}
 use Rattle.std.specs.Prelude.{Option, Some, None}
 use Rattle.paths.specs.Lists.{Each}
 use Rattle.hexlines.specs.Outputs.{two}
@@ -110,9 +111,9 @@ module _ (room : ℕ) (line bytes : List ℕ) (t : TextOf line bytes) where
   told_text None nodes nodes' h = ((λ f r. h.0 f (texts_frame f r)), h.1)
 
 -- a line whose characters are no bytes, and one whose bytes are read
-module _ (line room nodes : List ℕ) where
-  pub line_wrong : ReadsText line None room → Reads line None nodes nodes
+module _ (line nodes : List ℕ) where
+  pub line_wrong : ReadsText line None → Reads line None nodes nodes
   line_wrong r = record { tells = (no_text (length nodes) line r.tells, refl) }
 
-  pub line_read : (count : ℕ) (told : Option Line) (nodes' : List ℕ) → ReadsText line (Some count) room → TellsFrame (take count room) told nodes nodes' → Reads line told nodes nodes'
-  line_read count told nodes' r h = record { tells = told_text (length nodes) line (take count room) r.tells.0 told nodes nodes' h.tells }
+  pub line_read : (bytes : Bor (List ℕ)) (told : Option Line) (nodes' : List ℕ) → ReadsText line (Some bytes) → TellsFrame bytes.now told nodes nodes' → Reads line told nodes nodes'
+  line_read bytes told nodes' r h = record { tells = told_text (length nodes) line bytes.now r.tells.0 told nodes nodes' h.tells }

@@ -95,6 +95,6 @@ pub fn read_line(line: &[u8], nodes: &mut [u32]) -> Option<Line>
     ensures { Reads line.now result nodes.old nodes.new }
 {
     let mut room = [0; MOST_BYTES];
-    let count = read_text(line, &mut room)?;
-    read_frame(&room[..count], nodes)
+    let bytes = read_text(line, &mut room)?;
+    read_frame(bytes, nodes)
 }

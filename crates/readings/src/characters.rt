@@ -22,9 +22,9 @@ fn read_pair(high: u8, low: u8) -> Option<u8>
     Some(value(high)? * 16 + value(low)?)
 }
 
-// Reads the line's bytes into the room, and says how many they are.
-pub fn read_text(line: &[u8], room: &mut [u8; MOST_BYTES]) -> Option<usize>
-    ensures { ReadsText line.now result room.new }
+// Reads the line's bytes into the room, and gives them back.
+pub fn read_text<'a>(line: &[u8], room: &'a mut [u8; MOST_BYTES]) -> Option<&'a [u8]>
+    ensures { ReadsText line.now result }
 {
     let (pairs, []) = line.as_chunks::<2>() else {
         return None;
@@ -35,5 +35,5 @@ pub fn read_text(line: &[u8], room: &mut [u8; MOST_BYTES]) -> Option<usize>
     for (i, &[high, low]) in pairs.iter().enumerate() {
         room[i] = read_pair(high, low)?;
     }
-    Some(pairs.len())
+    Some(&room[..pairs.len()])
 }

@@ -1,5 +1,6 @@
 -- Reading on its way: from a digit to its number, from the text to its bytes, from the bytes to the frame.
 use Rattle.std.specs.Prelude.{◌≡◌, Option, Some, None, List, [], ◌∷◌, ℕ, ◌^◌, ◌*◌, ◌/◌, ◌%◌, ◌≤◌, ◌<◌, length, take, drop}
+use denote.Ref.{Bor}
 use Rattle.paths.specs.Lists.{Each}
 use Rattle.hexlines.specs.Outputs.{two}
 use Rattle.hexlines.specs.Text.{digit, hex_text}
@@ -30,12 +31,12 @@ pub record TextOf (line bytes : List ℕ) : Type 0 where
 abbrev pub most_bytes : ℕ
 most_bytes = 130
 
-abbrev pub TextTold : List ℕ → Option ℕ → List ℕ → Type 0
-TextTold line (Some count) room = TextOf line (take count room) × (count ≤ most_bytes)
-TextTold line None room = (bytes : List ℕ) → length bytes ≤ most_bytes → TextOf line bytes → ⊥
+abbrev pub TextTold : List ℕ → Option (Bor (List ℕ)) → Type 0
+TextTold line (Some bytes) = TextOf line bytes.now × (length bytes.now ≤ most_bytes)
+TextTold line None = (bytes : List ℕ) → length bytes ≤ most_bytes → TextOf line bytes → ⊥
 
-pub record ReadsText (line : List ℕ) (told : Option ℕ) (room : List ℕ) : Type 0 where
-  pub tells : TextTold line told room
+pub record ReadsText (line : List ℕ) (told : Option (Bor (List ℕ))) : Type 0 where
+  pub tells : TextTold line told
 
 -- the loop over the pairs, once those before i are read into the room
 pub record Reading (line room : List ℕ) (i : ℕ) : Type 0 where
