@@ -1,9 +1,10 @@
 -- The search's loop over the arcs of one node, for either end of the path.
-use mathlib.Core.Path.{◌≡◌, refl, sym, subst, subst₂}
+use mathlib.Core.Path.{◌≡◌, refl, sym, subst}
 use mathlib.Core.Bool.{Bool}
 use mathlib.Core.Logic.{◌⊎◌, inl, inr, ⊎_elim, ◌≢◌}
 use mathlib.Core.List.{List, [], ◌∷◌, ◌++◌}
-use Prim.Native.Nat.{ℕ, suc, ◌+◌, ◌-◌, ◌≤◌, ◌<◌}
+use Prim.Native.Nat.{ℕ, suc, ◌+◌, ◌-◌, ◌≤◌, ◌<◌, max}
+use native.Mathlib.Decide.{dec_lt}
 use native.Mathlib.Omega.{arith}
 use borrow.Author.Count.{below_more}
 use lib.ListN.{length, get_or}
@@ -16,7 +17,7 @@ use Rattle.road.specs.Roads.{nodes_of, Owns}
 use Rattle.road.specs.workings.Sound.{Rising, Sound}
 use Rattle.road.proofs.Rows.{owned_listed}
 use Rattle.rule.specs.Rule.{Dropped}
-use Rattle.trails.specs.workings.Search.{Completes, ends, longer, NoneMissing, Outward, OutwardFrom, FreeNode, Longest, Larger, Within, Searchable}
+use Rattle.trails.specs.workings.Search.{Completes, ends, longer, NoneMissing, Outward, OutwardFrom, FreeNode, Longest, Within, Searchable}
 
 -- one way to complete the path, taken apart
 record Longer (Next : ℕ → ℕ → Type 0) (Free : ℕ → Type 0) (End : List ℕ → ℕ → Type 0) (on : List ℕ) (a m : ℕ) : Type 0 where
@@ -100,10 +101,9 @@ module _ (starts heads : List ℕ) (n a i : ℕ) (g : Searchable starts heads n)
   pub head_node : get_or heads i 0 < n
   head_node = g.inside i place_listed
 
--- what the search found of the path with one node more, said of that node and of the nodes then on the path
-pub carried :
-    (R : List ℕ → ℕ → Type 0) {b : Bool} (on : List ℕ) {on' : List ℕ} {a v : ℕ} → on' ≡ on ++ (v ∷ []) → a ≡ v → Tells b (R on' a) → Tells b (R (on ++ (v ∷ [])) v)
-carried R {b} on e f t = subst₂ (λ (l : List ℕ) (x : ℕ). Tells b (R l x)) e f t
+-- what the search found of the path with one node more, said of the nodes then on the path
+pub carried : (R : List ℕ → Type 0) {b : Bool} (on : List ℕ) {on' : List ℕ} (v : ℕ) → on' ≡ on ++ (v ∷ []) → Tells b (R on') → Tells b (R (on ++ (v ∷ [])))
+carried R {b} on v e t = subst (λ (l : List ℕ). Tells b (R l)) e t
 
 -- the places tried, where the row ends
 pub tried_to : (End : List ℕ → ℕ → Type 0) (starts heads cover on : List ℕ) (m k i j : ℕ) → i ≡ j → Tried End starts heads cover on m k i → Tried End starts heads cover on m k j
@@ -147,6 +147,14 @@ module _ (starts heads cover on : List ℕ) (most : ℕ) where
             i (λ x c d f m e o. omega (arith, t.below x d c f m e o)) (λ d. n) j l b;
       }
 
+-- the larger of two numbers is one of them
+max_one : (a b r : ℕ) → r ≡ max a b → (r ≡ a) ⊎ (r ≡ b)
+max_one a b r e = by (dec_lt a b)
+  where
+    by : Dec (a < b) → (r ≡ a) ⊎ (r ≡ b)
+    by (yes h) = inr (omega arith)
+    by (no h) = inl (omega arith)
+
 -- the best so far, at place i of a's row
 pub record Best (starts heads cover on : List ℕ) (most a end i best : ℕ) : Type 0 where
   pub from : get_or starts a 0 ≤ i
@@ -178,9 +186,9 @@ module _ (starts heads cover on : List ℕ) (most a end : ℕ) where
         }
 
     module _ (g : Rising starts heads) (last : end ≡ get_or starts (a + 1) 0) (some : most ≢ 0) (f : FreeNode cover on (get_or heads i 0)) (found after : ℕ)
-        (l : Longest starts heads cover (on ++ (get_or heads i 0 ∷ [])) (get_or heads i 0) (most - 1) found) (w : Larger best (found + 1) after) where
+        (l : Longest starts heads cover (on ++ (get_or heads i 0 ∷ [])) (get_or heads i 0) (most - 1) found) (w : after ≡ max best (found + 1)) where
       pub best_reached : Outward starts heads cover on a after
-      best_reached = by w.one
+      best_reached = by (max_one best (found + 1) after w)
         where
           fewer : found ≡ found + 1 - 1
           fewer = omega arith
@@ -193,7 +201,7 @@ module _ (starts heads cover on : List ℕ) (most a end : ℕ) where
               (subst (λ (m : ℕ). Outward starts heads cover (on ++ (get_or heads i 0 ∷ [])) (get_or heads i 0) m) fewer l.reached))
 
       pub best_short : after ≤ most
-      best_short = by w.one
+      best_short = by (max_one best (found + 1) after w)
         where
           by : (after ≡ best) ⊎ (after ≡ found + 1) → after ≤ most
           by (inl e) = omega (arith, b.short)
@@ -205,7 +213,7 @@ module _ (starts heads cover on : List ℕ) (most a end : ℕ) where
             from = omega (arith, b.from);
             to = omega arith;
             measured =
-                measured_more starts heads cover on most best after (get_or starts a 0) i w.left b.measured (λ k m c o. omega (arith, l.bound m c o, w.right));
+                measured_more starts heads cover on most best after (get_or starts a 0) i (omega arith) b.measured (λ k m c o. omega (arith, l.bound m c o));
             reached = best_reached;
             short = best_short;
           }
@@ -236,8 +244,8 @@ pub longest_none : (starts heads cover on : List ℕ) (a most : ℕ) → most �
 longest_none starts heads cover on a most e = record { reached = ends (record { none = refl }); short = omega arith; bound = λ m h o. omega arith }
 
 pub longest_carried :
-    (starts heads cover on on' : List ℕ) (a v most r : ℕ) → on' ≡ on ++ (v ∷ []) → a ≡ v → Longest starts heads cover on' a most r → Longest starts heads cover (on ++ (v ∷ [])) v most r
-longest_carried starts heads cover on on' a v most r e f l = subst₂ (λ (k : List ℕ) (x : ℕ). Longest starts heads cover k x most r) e f l
+    (starts heads cover on on' : List ℕ) (v most r : ℕ) → on' ≡ on ++ (v ∷ []) → Longest starts heads cover on' v most r → Longest starts heads cover (on ++ (v ∷ [])) v most r
+longest_carried starts heads cover on on' v most r e l = subst (λ (k : List ℕ). Longest starts heads cover k v most r) e l
 
 -- One node more on the path: what can come onto it at its outward end is no more than before.
 pub within_longer :

@@ -5,18 +5,12 @@ mod search;
 mod under_trial;
 
 use road::NodeCount;
-pub use search::{inward, larger, longest};
+pub use search::{inward, longest};
 
-// The path under trial: at most 32 nodes, in the order in which they were met.
+// The path under trial: at most 32 nodes, in the order in which they were met. It goes in by value
+// and comes back longer: this is the project's form.
 #[derive(Clone, Copy)]
 pub struct Trail {
     pub nodes: [u32; 32],
     pub count: NodeCount,
-}
-
-// The path with one node more, or that it is full.
-#[derive(Clone, Copy)]
-pub struct Pushed {
-    pub full: bool,
-    pub trail: Trail,
 }

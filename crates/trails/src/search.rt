@@ -3,116 +3,74 @@
 // that is full goes no further: with k of at most 32 that is never met.
 ghost use Rattle.std.specs.Prelude.{◌+◌, ◌≤◌, ◌<◌, length};
 ghost use Rattle.road.specs.workings.Verdicts.{Tells};
-ghost use Rattle.trails.specs.workings.Search.{FreeNode, Inward, Larger, Longest, Outward, Searchable, Within};
+ghost use Rattle.trails.specs.workings.Search.{Grows, Inward, Longest, Outward, Searchable, Within};
 ghost use Rattle.trails.specs.Trails.{on_trail};
 
 use crate::Trail;
-use road::{NodeCount, row, wide};
+use road::{Graph, NodeCount};
 
-// Whether v is dropped and not on the path yet.
-fn is_free(cover: &[u8], t: Trail, v: u32) -> bool
+// The path with v on it, if v is dropped and not on the path yet.
+fn grown(cover: &[u8], t: Trail, v: u32) -> Option<Trail>
     requires v_in_bounds { v < length cover.now }
-    requires count_bound { t.count.0 ≤ 32 }
-    ensures { Tells result (FreeNode cover.now (on_trail t) v) }
+    requires count_bound { t.count.0 < 32 }
+    ensures { Grows cover.now t v result }
 {
-    if cover[wide(v)] != 0 {
-        return false;
+    if cover[v as usize] != 0 {
+        return None;
     }
     if t.has(v) {
-        return false;
+        return None;
     }
-    true
+    t.push(v)
 }
 
 // At the outward end alone.
-fn outward(
-    starts: &[u32],
-    heads: &[u32],
-    cover: &[u8],
-    t: Trail,
-    last: usize,
-    missing: NodeCount,
-) -> bool
-    requires searchable { Searchable starts.now heads.now (length cover.now) }
+fn outward(graph: &Graph, cover: &[u8], t: Trail, last: usize, missing: NodeCount) -> bool
+    requires searchable { Searchable graph.now.starts.now graph.now.heads.now (length cover.now) }
     requires last_in_bounds { last < length cover.now }
     requires missing_bound { t.count.0 + missing.0 ≤ 32 }
-    ensures { Tells result (Outward starts.now heads.now cover.now (on_trail t) last missing.0) }
+    ensures { Tells result (Outward graph.now.starts.now graph.now.heads.now cover.now (on_trail t) last missing.0) }
 {
     if missing.0 == 0 {
         return true;
     }
-    let arcs = row(starts, last);
-    let end = arcs.end;
-    let mut i = arcs.first;
-    while i < end {
-        let v = heads[i];
-        if is_free(cover, t, v) {
-            let longer = t.push(v);
-            if longer.full {
-                return false;
-            }
-            let trail = longer.trail;
-            if outward(
-                starts,
-                heads,
-                cover,
-                trail,
-                wide(v),
-                NodeCount(missing.0 - 1),
-            ) {
+    let row = graph.row(last);
+    let heads = graph.heads;
+    let fewer = NodeCount(missing.0 - 1);
+    for p in row.start..row.end {
+        let v = heads[p];
+        if let Some(longer) = grown(cover, t, v) {
+            if outward(graph, cover, longer, v as usize, fewer) {
                 return true;
             }
         }
-        i += 1;
     }
     false
 }
 
-pub fn larger(a: usize, b: usize) -> usize
-    ensures { Larger a b result }
-{
-    if a < b {
-        return b;
-    }
-    a
-}
-
 // How many nodes can come onto the path at its outward end, up to `most`.
-pub fn longest(
-    starts: &[u32],
-    heads: &[u32],
-    cover: &[u8],
-    t: Trail,
-    last: usize,
-    most: NodeCount,
-) -> NodeCount
-    requires searchable { Searchable starts.now heads.now (length cover.now) }
+pub fn longest(graph: &Graph, cover: &[u8], t: Trail, last: usize, most: NodeCount) -> NodeCount
+    requires searchable { Searchable graph.now.starts.now graph.now.heads.now (length cover.now) }
     requires last_in_bounds { last < length cover.now }
     requires most_bound { t.count.0 + most.0 ≤ 32 }
-    ensures { Longest starts.now heads.now cover.now (on_trail t) last most.0 result.0 }
+    ensures { Longest graph.now.starts.now graph.now.heads.now cover.now (on_trail t) last most.0 result.0 }
 {
     if most.0 == 0 {
         return NodeCount(0);
     }
-    let arcs = row(starts, last);
-    let end = arcs.end;
-    let mut i = arcs.first;
+    let row = graph.row(last);
+    let heads = graph.heads;
+    let fewer = NodeCount(most.0 - 1);
     let mut best = 0;
-    while i < end {
-        let v = heads[i];
-        if is_free(cover, t, v) {
-            let longer = t.push(v);
-            if longer.full {
-                return NodeCount(best);
-            }
-            let trail = longer.trail;
-            let found = longest(starts, heads, cover, trail, wide(v), NodeCount(most.0 - 1));
-            best = larger(best, found.0 + 1);
+    for p in row.start..row.end {
+        let v = heads[p];
+        if let Some(longer) = grown(cover, t, v) {
+            let found = longest(graph, cover, longer, v as usize, fewer);
+            best = best.max(found.0 + 1);
             if most.0 <= best {
                 return NodeCount(best);
             }
         }
-        i += 1;
     }
     NodeCount(best)
 }
@@ -121,10 +79,8 @@ pub fn longest(
 // end. There no more than `reach` nodes can come onto the path, so that end need not be tried
 // where more are missing.
 pub fn inward(
-    starts: &[u32],
-    heads: &[u32],
-    starts_back: &[u32],
-    heads_back: &[u32],
+    graph: &Graph,
+    back: &Graph,
     cover: &[u8],
     t: Trail,
     first: usize,
@@ -132,47 +88,30 @@ pub fn inward(
     missing: NodeCount,
     reach: NodeCount,
 ) -> bool
-    requires searchable { Searchable starts.now heads.now (length cover.now) }
-    requires searchable_2 { Searchable starts_back.now heads_back.now (length cover.now) }
+    requires searchable { Searchable graph.now.starts.now graph.now.heads.now (length cover.now) }
+    requires searchable_2 { Searchable back.now.starts.now back.now.heads.now (length cover.now) }
     requires first_in_bounds { first < length cover.now }
     requires last_in_bounds { last < length cover.now }
     requires missing_bound { t.count.0 + missing.0 ≤ 32 }
-    requires within { Within starts.now heads.now cover.now (on_trail t) last missing.0 reach.0 }
-    ensures { Tells result (Inward starts.now heads.now starts_back.now heads_back.now cover.now last (on_trail t) first missing.0) }
+    requires within { Within graph.now.starts.now graph.now.heads.now cover.now (on_trail t) last missing.0 reach.0 }
+    ensures { Tells result (Inward graph.now.starts.now graph.now.heads.now back.now.starts.now back.now.heads.now cover.now last (on_trail t) first missing.0) }
 {
     if missing.0 == 0 {
         return true;
     }
-    let arcs = row(starts_back, first);
-    let end = arcs.end;
-    let mut i = arcs.first;
-    while i < end {
-        let v = heads_back[i];
-        if is_free(cover, t, v) {
-            let longer = t.push(v);
-            if longer.full {
-                return false;
-            }
-            let trail = longer.trail;
-            if inward(
-                starts,
-                heads,
-                starts_back,
-                heads_back,
-                cover,
-                trail,
-                wide(v),
-                last,
-                NodeCount(missing.0 - 1),
-                reach,
-            ) {
+    let row = back.row(first);
+    let heads = back.heads;
+    let fewer = NodeCount(missing.0 - 1);
+    for p in row.start..row.end {
+        let v = heads[p];
+        if let Some(longer) = grown(cover, t, v) {
+            if inward(graph, back, cover, longer, v as usize, last, fewer, reach) {
                 return true;
             }
         }
-        i += 1;
     }
     if reach.0 < missing.0 {
         return false;
     }
-    outward(starts, heads, cover, t, last, missing)
+    outward(graph, cover, t, last, missing)
 }

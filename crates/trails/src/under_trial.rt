@@ -4,7 +4,7 @@ ghost use Rattle.paths.specs.Lists.{Mem};
 ghost use Rattle.road.specs.workings.Verdicts.{Tells};
 ghost use Rattle.trails.specs.Trails.{on_trail, Pushes};
 
-use crate::{Pushed, Trail};
+use crate::Trail;
 use road::NodeCount;
 
 impl Trail {
@@ -20,26 +20,20 @@ impl Trail {
         }
     }
 
-    // The path with one node more, or that it is full.
-    pub fn push(self, v: u32) -> Pushed
+    // The path with one node more, or none where it is full.
+    pub fn push(self, v: u32) -> Option<Trail>
         ensures { Pushes self v result }
     {
         let at = self.count.0;
         if 32 <= at {
-            return Pushed {
-                full: true,
-                trail: self,
-            };
+            return None;
         }
         let mut nodes = self.nodes;
         nodes[at] = v;
-        Pushed {
-            full: false,
-            trail: Trail {
-                nodes,
-                count: NodeCount(at + 1),
-            },
-        }
+        Some(Trail {
+            nodes,
+            count: NodeCount(at + 1),
+        })
     }
 
     // Whether a node is on it. The node that one came from is met most often, so it is looked for
@@ -49,13 +43,6 @@ impl Trail {
         ensures { Tells result (Mem v (on_trail self)) }
     {
         let nodes = self.nodes;
-        let mut i = self.count.0;
-        while 0 < i {
-            i -= 1;
-            if nodes[i] == v {
-                return true;
-            }
-        }
-        false
+        nodes[..self.count.0].iter().rev().any(|node| *node == v)
     }
 }

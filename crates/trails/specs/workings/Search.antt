@@ -1,9 +1,11 @@
 -- When the path under trial can be completed.
-use Rattle.std.specs.Prelude.{◌≡◌, ◌⊎◌, List, [], ◌∷◌, ◌++◌, ℕ, suc, ◌+◌, ◌≤◌, ◌<◌, length, get_or}
+use Rattle.std.specs.Prelude.{◌≡◌, Option, MatchOption, List, [], ◌∷◌, ◌++◌, ℕ, suc, ◌+◌, ◌≤◌, ◌<◌, length, get_or}
 use Rattle.paths.specs.Lists.{Mem}
 use Rattle.road.specs.Drives.{Joined}
 use Rattle.road.specs.workings.Sound.{Rising}
 use Rattle.rule.specs.Rule.{Dropped}
+use Rattle.trails.specs.declared.Trail.{Trail}
+use Rattle.trails.specs.Trails.{on_trail, Longer}
 
 -- `Completes Next Free End on a m`: the path with the nodes `on`, which ends at a, can be completed by m nodes. Either it is
 -- complete at this end, which `End` tells of the nodes on it and of those missing; or Next leads from a to a free node that is not on
@@ -37,6 +39,10 @@ pub record FreeNode (cover on : List ℕ) (v : ℕ) : Type 0 where
   pub dropped : Dropped cover v
   pub new : Mem v on → ⊥
 
+-- the path with v on it where v can come onto it, and none where it can't
+abbrev pub Grows : List ℕ → Trail → ℕ → Option Trail → Type 0
+Grows cover t v r = MatchOption r (FreeNode cover (on_trail t) v → ⊥) (λ u. FreeNode cover (on_trail t) v × Longer t v u)
+
 -- r nodes can come onto the path at its outward end, and of up to `most` nodes no more can
 pub record Longest (starts heads cover on : List ℕ) (last most r : ℕ) : Type 0 where
   pub reached : Outward starts heads cover on last r
@@ -46,9 +52,3 @@ pub record Longest (starts heads cover on : List ℕ) (last most r : ℕ) : Type
 -- where up to `most` nodes are missing, no more than r can come onto the path at its outward end
 pub record Within (starts heads cover on : List ℕ) (last most r : ℕ) : Type 0 where
   pub bound : (m : ℕ) → m ≤ most → Outward starts heads cover on last m → m ≤ r
-
--- the larger of two numbers
-pub record Larger (a b r : ℕ) : Type 0 where
-  pub left : a ≤ r
-  pub right : b ≤ r
-  pub one : (r ≡ a) ⊎ (r ≡ b)

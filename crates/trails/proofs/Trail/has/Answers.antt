@@ -1,11 +1,9 @@
-use Rattle.trails.proofs.Trails.{met, not_met}
-use Rattle.road.proofs.Refusals.{tells_yes, tells_no}
-use Rattle.std.proofs.Common.{arith}
-use borrow.Author.Rules.{rules}
+use Rattle.std.proofs.Common.{rules, take}
+use Rattle.std.proofs.Math.Dec.{eqb}
+use Rattle.std.proofs.lemmas.Iterator.Adapters.{YieldsList-from_rev_slice}
+use Rattle.std.proofs.lemmas.Iterator.Search.{any_from_yields_List}
+use Rattle.trails.proofs.Trails.{found_from_back}
 use Rattle.trails.proofs.Trail.has.Goals as goal
 
-pub returns-then-nodes-i : goal.returns-then-nodes-i
-returns-then-nodes-i c = tells_yes (met _ _ _ (search rules) c.requires _ (omega arith) c.if-nodes-i.true)
-
 pub returns : goal.returns
-returns c = tells_no (not_met _ _ _ (search rules) c.requires (λ j h. c.loop-i.invariant.1 j (omega arith)))
+returns c = found_from_back c.args.v _ (any_from_yields_List (λ x. eqb x c.args.v) _ _ c.any.result c.any.ensures.ran (YieldsList-from_rev_slice (take c.args.self.count.0 c.args.self.nodes) (search rules)) (λ x b q k. search rules))

@@ -1,4 +1,4 @@
-use Prim.Native.Nat.{◌-◌, ◌≤◌}
+use Prim.Native.Nat.{◌≤◌}
 use lib.ListN.{get_or}
 use Rattle.trails.specs.workings.Search.{OutwardFrom}
 use Rattle.trails.specs.Trails.{on_trail}
@@ -8,8 +8,5 @@ use Rattle.trails.proofs.search.+inward.Given as goal
 abbrev pub decreases-inward : goal.decreases-inward
 decreases-inward l = l.missing.0
 
-abbrev pub invariant-loop-i : goal.invariant-loop-i
-invariant-loop-i l = (get_or l.starts_back l.first 0 ≤ l.i) × (l.i ≤ l.end) × Tried (OutwardFrom l.starts l.heads l.cover l.last) l.starts_back l.heads_back l.cover (on_trail l.t) (l.missing.0 - 1) (get_or l.starts_back l.first 0) l.i
-
-abbrev pub decreases-loop-i : goal.decreases-loop-i
-decreases-loop-i l = l.end - l.i
+abbrev pub invariant-loop-p : goal.invariant-loop-p
+invariant-loop-p l = (get_or l.back.starts.now l.first 0 ≤ l.p) × (l.p ≤ l.p-end) × Tried (OutwardFrom l.graph.starts.now l.graph.heads.now l.cover l.last) l.back.starts.now l.back.heads.now l.cover (on_trail l.t) l.fewer.0 (get_or l.back.starts.now l.first 0) l.p
