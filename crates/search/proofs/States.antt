@@ -17,10 +17,13 @@ use Rattle.road.specs.Roads.{nodes_of, Owns, Arc, road}
 use Rattle.road.specs.workings.Sound.{Sound}
 use Rattle.road.proofs.Rows.{owned_listed}
 use Rattle.road.proofs.Filled.{zeros_at}
+use Rattle.search.specs.declared.Queue.{Queue}
+use Rattle.search.specs.Lent.{SameSlices}
+use Rattle.search.specs.workings.Lent.{HeapOf}
 use Rattle.search.specs.workings.Queue.{Heap, Waits, Sooner, With, Without}
 use Rattle.search.specs.workings.Rows.{Free, Row, Asks, label_at}
 use Rattle.search.specs.workings.States.{Open, Reached, State, Closed, Labelled, All, Upto, Offered, refused, taken, heavy, mass, Going, Leaves}
-use Rattle.search.proofs.Heaps.{waits_node}
+use Rattle.search.proofs.Heaps.{waits_node, same_slices, slices_then}
 use Rattle.road.proofs.Counting.{times_fewer, times_kept, times_each, times_all}
 use Rattle.road.specs.Counting.{times}
 
@@ -372,8 +375,10 @@ module _ (starts heads weights blocked : List ℕ) (source : ℕ) (sound : Sound
       small_by v (yes e) = omega (arith, ap (λ (k : ℕ). get_or (set (blank (nodes_of starts)) source 1) k 0) e, first_label, fewer)
       small_by v (no n) = omega (arith, first_other v n, fewer)
 
-  pub first_going : (heap places : List ℕ) → Heap heap places 1 → With source (blank (nodes_of starts)) places → Going starts heads weights blocked source (set (blank (nodes_of starts)) source 1) heap places 1 All
-  first_going heap places h w =
+  pub first_going :
+      (heap places : List ℕ) (count : ℕ) → Heap heap places count → With source (blank (nodes_of starts)) places →
+      Going starts heads weights blocked source (set (blank (nodes_of starts)) source 1) heap places count All
+  first_going heap places count h w =
       record {
         state = first_state;
         labelled = record { labelled = λ v k z. only v k z (w.only v k) };
@@ -387,25 +392,24 @@ module _ (starts heads weights blocked : List ℕ) (source : ℕ) (sound : Sound
       only v k z (inr j) = j (zeros_at (nodes_of starts) v)
 
 -- One node's arcs on their way.
-pub record Relaxing (starts heads weights blocked : List ℕ) (source u : ℕ) (labels₀ heap₀ places₀ : List ℕ) (waiting base end i : ℕ) (labels heap places : List ℕ) (count : ℕ) : Type 0 where
-  pub going : Going starts heads weights blocked source labels heap places count (Upto u i)
-  pub leaves : Leaves blocked source labels places u
+pub record Relaxing (starts heads weights blocked : List ℕ) (source u : ℕ) (labels₀ : List ℕ) (queue₀ : Queue) (base end i : ℕ) (labels : List ℕ) (queue : Queue) : Type 0 where
+  pub going : Going starts heads weights blocked source labels queue.heap.now queue.places.now queue.waiting (Upto u i)
+  pub leaves : Leaves blocked source labels queue.places.now u
   pub base_is : label_at labels u ≡ base
   pub end_is : end ≡ get_or starts (u + 1) 0
   pub from : get_or starts u 0 ≤ i
   pub to : i ≤ end
-  pub falls : mass labels + count ≤ mass labels₀ + waiting
+  pub falls : mass labels + queue.waiting ≤ mass labels₀ + queue₀.waiting
   pub labels_long : length labels ≡ length labels₀
-  pub heap_long : length heap ≡ length heap₀
-  pub places_long : length places ≡ length places₀
+  pub slices : SameSlices queue₀ queue
 
-module _ (starts heads weights blocked : List ℕ) (source u : ℕ) (labels₀ heap₀ places₀ : List ℕ) (waiting base end : ℕ) where
+module _ (starts heads weights blocked : List ℕ) (source u : ℕ) (labels₀ : List ℕ) (queue₀ : Queue) (base end : ℕ) where
   pub relax_none :
-      Going starts heads weights blocked source labels₀ heap₀ places₀ waiting (Upto u (get_or starts u 0)) → Leaves blocked source labels₀ places₀ u → base ≡ label_at labels₀ u →
-      end ≡ get_or starts (u + 1) 0 → u < nodes_of starts → (i : ℕ) → i ≡ get_or starts u 0 → Relaxing starts heads weights blocked source u labels₀ heap₀ places₀ waiting base end i labels₀ heap₀ places₀ waiting
+      Going starts heads weights blocked source labels₀ queue₀.heap.now queue₀.places.now queue₀.waiting (Upto u (get_or starts u 0)) → Leaves blocked source labels₀ queue₀.places.now u → base ≡ label_at labels₀ u →
+      end ≡ get_or starts (u + 1) 0 → u < nodes_of starts → (i : ℕ) → i ≡ get_or starts u 0 → Relaxing starts heads weights blocked source u labels₀ queue₀ base end i labels₀ queue₀
   relax_none g l b e h i q =
       record {
-        going = subst (λ (x : ℕ). Going starts heads weights blocked source labels₀ heap₀ places₀ waiting (Upto u x)) (sym q) g;
+        going = subst (λ (x : ℕ). Going starts heads weights blocked source labels₀ queue₀.heap.now queue₀.places.now queue₀.waiting (Upto u x)) (sym q) g;
         leaves = l;
         base_is = sym b;
         end_is = e;
@@ -413,21 +417,24 @@ module _ (starts heads weights blocked : List ℕ) (source u : ℕ) (labels₀ h
         to = omega (arith, g.state.sound_graph.rising.rises u (omega arith));
         falls = omega arith;
         labels_long = refl;
-        heap_long = refl;
-        places_long = refl;
+        slices = same_slices queue₀;
       }
 
-  module _ (i : ℕ) (labels heap places : List ℕ) (count : ℕ) (r : Relaxing starts heads weights blocked source u labels₀ heap₀ places₀ waiting base end i labels heap places count) (h : i < end) where
+  module _ (i : ℕ) (labels : List ℕ) (queue : Queue) (r : Relaxing starts heads weights blocked source u labels₀ queue₀ base end i labels queue) (h : i < end) where
     row_own : Owns starts u i
     row_own = record { from = r.from; below = omega (arith, r.end_is) }
 
     pub row_listed : i < length heads
     row_listed = owned_listed starts heads r.going.state.sound_graph.rising u i row_own
 
+    -- and as a place in memory it is small
+    pub row_near : i < 65536
+    row_near = omega (arith, row_listed, r.going.state.sound_graph.sized.few)
+
     pub row_weighed : i < length weights
     row_weighed = omega (arith, row_listed, r.going.state.sound_graph.sized.alike)
 
-    pub row_node : get_or heads i 0 < length places
+    pub row_node : get_or heads i 0 < length queue.places.now
     row_node = omega (arith, r.going.state.sound_graph.inside i row_listed, r.going.as_many)
 
     pub sum_small : base + get_or weights i 0 < 20000000000000
@@ -435,58 +442,60 @@ module _ (starts heads weights blocked : List ℕ) (source u : ℕ) (labels₀ h
         omega
         (arith, r.base_is, label_small starts heads weights blocked source labels r.going.state u, r.going.state.sound_graph.light i row_listed)
 
-    pub lengths_match : length labels ≡ length places
+    pub lengths_match : length labels ≡ length queue.places.now
     lengths_match = omega (arith, r.going.state.long, r.going.as_many)
 
     pub relax_more :
-        (labels' heap' places' : List ℕ) (count' v x : ℕ) → v ≡ get_or heads i 0 → x ≡ base + get_or weights i 0 → Heap heap' places' count' →
-        Offered v x labels places count labels' places' count' → length labels' ≡ length labels → length heap' ≡ length heap → length places' ≡ length places →
-        Relaxing starts heads weights blocked source u labels₀ heap₀ places₀ waiting base end (i + 1) labels' heap' places' count'
-    relax_more labels' heap' places' count' v x ev ex hp f ll lh lp =
+        (labels' : List ℕ) (queue' : Queue) (w : ℕ) → w ≡ get_or weights i 0 → HeapOf queue' →
+        Offered (get_or heads i 0) (base + w) labels queue.places.now queue.waiting labels' queue'.places.now queue'.waiting →
+        length labels' ≡ length labels → SameSlices queue queue' →
+        Relaxing starts heads weights blocked source u labels₀ queue₀ base end (i + 1) labels' queue'
+    relax_more labels' queue' w e hp f ll ls =
         record {
           going =
               record {
-                state = state_after starts heads weights blocked source labels places r.going.state u i row_own row_listed r.leaves.some r.leaves.idle r.leaves.may r.going.closed labels' places' count count' o;
-                labelled = labelled_after starts heads weights blocked source labels places r.going.state u i row_own row_listed r.leaves.some r.leaves.idle r.leaves.may r.going.closed labels' places' count count' o r.going.labelled;
-                closed = closed_after starts heads weights blocked source labels places r.going.state u i row_own row_listed r.leaves.some r.leaves.idle r.leaves.may r.going.closed labels' places' count count' o;
+                state = state_after starts heads weights blocked source labels queue.places.now r.going.state u i row_own row_listed r.leaves.some r.leaves.idle r.leaves.may r.going.closed labels' queue'.places.now queue.waiting queue'.waiting o;
+                labelled = labelled_after starts heads weights blocked source labels queue.places.now r.going.state u i row_own row_listed r.leaves.some r.leaves.idle r.leaves.may r.going.closed labels' queue'.places.now queue.waiting queue'.waiting o r.going.labelled;
+                closed = closed_after starts heads weights blocked source labels queue.places.now r.going.state u i row_own row_listed r.leaves.some r.leaves.idle r.leaves.may r.going.closed labels' queue'.places.now queue.waiting queue'.waiting o;
                 heap_is = hp;
-                as_many = lp ∙ r.going.as_many;
+                as_many = ls.places_long ∙ r.going.as_many;
               };
-          leaves = record { some = λ z. r.leaves.some (sym keeps ∙ z); idle = idle_after starts heads weights blocked source labels places r.going.state u i row_own row_listed r.leaves.some r.leaves.idle r.leaves.may r.going.closed labels' places' count count' o; may = r.leaves.may };
+          leaves = record { some = λ z. r.leaves.some (sym keeps ∙ z); idle = idle_after starts heads weights blocked source labels queue.places.now r.going.state u i row_own row_listed r.leaves.some r.leaves.idle r.leaves.may r.going.closed labels' queue'.places.now queue.waiting queue'.waiting o; may = r.leaves.may };
           base_is = keeps ∙ r.base_is;
           end_is = r.end_is;
           from = omega (arith, r.from);
           to = omega arith;
-          falls = omega (arith, r.falls, mass_after starts heads weights blocked source labels places r.going.state u i row_own row_listed r.leaves.some r.leaves.idle r.leaves.may r.going.closed labels' places' count count' o);
+          falls = omega (arith, r.falls, mass_after starts heads weights blocked source labels queue.places.now r.going.state u i row_own row_listed r.leaves.some r.leaves.idle r.leaves.may r.going.closed labels' queue'.places.now queue.waiting queue'.waiting o);
           labels_long = ll ∙ r.labels_long;
-          heap_long = lh ∙ r.heap_long;
-          places_long = lp ∙ r.places_long;
+          slices = slices_then queue₀ queue queue' r.slices ls;
         }
       where
-        o : Offered (get_or heads i 0) (label_at labels u + get_or weights i 0) labels places count labels' places' count'
-        o = subst₂ (λ (y z : ℕ). Offered y z labels places count labels' places' count') ev (ex ∙ ap (λ (y : ℕ). y + get_or weights i 0) (sym r.base_is)) f
+        o : Offered (get_or heads i 0) (label_at labels u + get_or weights i 0) labels queue.places.now queue.waiting labels' queue'.places.now queue'.waiting
+        o =
+            subst₂ (λ (y z : ℕ). Offered (get_or heads i 0) (y + z) labels queue.places.now queue.waiting labels' queue'.places.now queue'.waiting)
+            (sym r.base_is) e f
 
         keeps : label_at labels' u ≡ label_at labels u
-        keeps = label_after starts heads weights blocked source labels places r.going.state u i row_own row_listed r.leaves.some r.leaves.idle r.leaves.may r.going.closed labels' places' count count' o
+        keeps = label_after starts heads weights blocked source labels queue.places.now r.going.state u i row_own row_listed r.leaves.some r.leaves.idle r.leaves.may r.going.closed labels' queue'.places.now queue.waiting queue'.waiting o
 
   pub relax_end :
-      (i : ℕ) (labels heap places : List ℕ) (count : ℕ) → Relaxing starts heads weights blocked source u labels₀ heap₀ places₀ waiting base end i labels heap places count → end ≤ i →
-      Going starts heads weights blocked source labels heap places count All
-  relax_end i labels heap places count r h =
+      (i : ℕ) (labels : List ℕ) (queue : Queue) → Relaxing starts heads weights blocked source u labels₀ queue₀ base end i labels queue → end ≤ i →
+      Going starts heads weights blocked source labels queue.heap.now queue.places.now queue.waiting All
+  relax_end i labels queue r h =
       let g = r.going in
       let at : i ≡ get_or starts (u + 1) 0 = omega (arith, r.to, r.end_is) in
       record {
         state = g.state;
         labelled = g.labelled;
-        closed = closed_row starts heads weights blocked source labels places places u (subst (λ (x : ℕ). Closed starts heads weights blocked source labels places (Upto u x)) at g.closed);
+        closed = closed_row starts heads weights blocked source labels queue.places.now queue.places.now u (subst (λ (x : ℕ). Closed starts heads weights blocked source labels queue.places.now (Upto u x)) at g.closed);
         heap_is = g.heap_is;
         as_many = g.as_many;
       }
 
 -- A node is taken.
 module _ (starts heads weights blocked : List ℕ) (source : ℕ) (labels heap places : List ℕ) (count : ℕ) (g : Going starts heads weights blocked source labels heap places count All)
-    (u : ℕ) (heap' places' : List ℕ) (h : Heap heap' places' (count - 1)) (w : Without u places places') where
-  pub going_taken : Going starts heads weights blocked source labels heap' places' (count - 1) (Upto u (get_or starts u 0))
+    (u : ℕ) (heap' places' : List ℕ) (count' : ℕ) (h : Heap heap' places' count') (w : Without u places places') where
+  pub going_taken : Going starts heads weights blocked source labels heap' places' count' (Upto u (get_or starts u 0))
   going_taken =
       record {
         state = g.state;
@@ -502,7 +511,7 @@ module _ (starts heads weights blocked : List ℕ) (source : ℕ) (labels heap p
   pub node_taken : u < nodes_of starts
   node_taken = omega (arith, waits_node heap places count g.heap_is u w.was, g.as_many)
 
-  pub going_shut : (Open blocked source u → ⊥) → Going starts heads weights blocked source labels heap' places' (count - 1) All
+  pub going_shut : (Open blocked source u → ⊥) → Going starts heads weights blocked source labels heap' places' count' All
   going_shut n =
       record {
         state = g.state;
@@ -512,25 +521,24 @@ module _ (starts heads weights blocked : List ℕ) (source : ℕ) (labels heap p
         as_many = going_taken.as_many;
       }
 
--- The search between takes, with the lengths that stay.
-pub record Running (starts heads weights blocked : List ℕ) (source : ℕ) (labels₀ heap₀ places₀ labels heap places : List ℕ) (count : ℕ) : Type 0 where
-  pub going : Going starts heads weights blocked source labels heap places count All
+-- The search between takes, with what stays.
+pub record Running (starts heads weights blocked : List ℕ) (source : ℕ) (labels₀ : List ℕ) (queue₀ : Queue) (labels : List ℕ) (queue : Queue) : Type 0 where
+  pub going : Going starts heads weights blocked source labels queue.heap.now queue.places.now queue.waiting All
   pub labels_long : length labels ≡ length labels₀
-  pub heap_long : length heap ≡ length heap₀
-  pub places_long : length places ≡ length places₀
+  pub slices : SameSlices queue₀ queue
 
 module _ (starts heads weights blocked : List ℕ) (source : ℕ) where
   pub running_none :
-      (labels heap places : List ℕ) (count : ℕ) → Going starts heads weights blocked source labels heap places count All →
-      Running starts heads weights blocked source labels heap places labels heap places count
-  running_none labels heap places count g = record { going = g; labels_long = refl; heap_long = refl; places_long = refl }
+      (labels : List ℕ) (queue : Queue) → Going starts heads weights blocked source labels queue.heap.now queue.places.now queue.waiting All →
+      Running starts heads weights blocked source labels queue labels queue
+  running_none labels queue g = record { going = g; labels_long = refl; slices = same_slices queue }
 
   pub running_on :
-      (labels₀ heap₀ places₀ labels heap places : List ℕ) (count : ℕ) → Running starts heads weights blocked source labels₀ heap₀ places₀ labels heap places count →
-      (labels' heap' places' : List ℕ) (count' : ℕ) → Going starts heads weights blocked source labels' heap' places' count' All → length labels' ≡ length labels →
-      length heap' ≡ length heap → length places' ≡ length places → Running starts heads weights blocked source labels₀ heap₀ places₀ labels' heap' places' count'
-  running_on labels₀ heap₀ places₀ labels heap places count r labels' heap' places' count' g ll lh lp =
-      record { going = g; labels_long = ll ∙ r.labels_long; heap_long = lh ∙ r.heap_long; places_long = lp ∙ r.places_long }
+      (labels₀ : List ℕ) (queue₀ : Queue) (labels : List ℕ) (queue : Queue) → Running starts heads weights blocked source labels₀ queue₀ labels queue →
+      (labels' : List ℕ) (queue' : Queue) → Going starts heads weights blocked source labels' queue'.heap.now queue'.places.now queue'.waiting All →
+      length labels' ≡ length labels → SameSlices queue queue' → Running starts heads weights blocked source labels₀ queue₀ labels' queue'
+  running_on labels₀ queue₀ labels queue r labels' queue' g ll ls =
+      record { going = g; labels_long = ll ∙ r.labels_long; slices = slices_then queue₀ queue queue' r.slices ls }
 
   pub going_at :
       (labels heap places : List ℕ) (count count' : ℕ) → count ≡ count' → Going starts heads weights blocked source labels heap places count All →
@@ -576,8 +584,8 @@ module _ (starts heads weights blocked : List ℕ) (source : ℕ) (labels heap p
   source_idle = ap (λ (l : List ℕ). get_or l source 0) q.places_zero ∙ zeros_at (nodes_of starts) source
 
   pub going_first :
-      (cleared heap' places' : List ℕ) → cleared ≡ replicate (length labels) 0 → Heap heap' places' 1 → With source places places' →
-      Going starts heads weights blocked source (set cleared source 1) heap' places' 1 All
-  going_first cleared heap' places' e h w =
-      subst (λ (l : List ℕ). Going starts heads weights blocked source (set l source 1) heap' places' 1 All) (sym (e ∙ ap blank q.room))
-      (first_going starts heads weights blocked source q.sound q.node heap' places' h (subst (λ (l : List ℕ). With source l places') q.places_zero w))
+      (cleared heap' places' : List ℕ) (count : ℕ) → cleared ≡ replicate (length labels) 0 → Heap heap' places' count → With source places places' →
+      Going starts heads weights blocked source (set cleared source 1) heap' places' count All
+  going_first cleared heap' places' count e h w =
+      subst (λ (l : List ℕ). Going starts heads weights blocked source (set l source 1) heap' places' count All) (sym (e ∙ ap blank q.room))
+      (first_going starts heads weights blocked source q.sound q.node heap' places' count h (subst (λ (l : List ℕ). With source l places') q.places_zero w))

@@ -1,2 +1,3 @@
 -- The search: what it finds, and its queue.
+pub mod Lent
 pub mod workings

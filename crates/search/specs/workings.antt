@@ -2,3 +2,4 @@
 pub mod Queue
 pub mod Rows
 pub mod States
+pub mod Lent

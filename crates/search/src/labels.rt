@@ -1,207 +1,112 @@
 // The search. A node whose label falls waits again; when nothing waits the labels are least.
-ghost use Rattle.std.specs.Prelude.{◌≡◌, ◌+◌, ◌≤◌, ◌<◌, length, get_or, replicate};
+ghost use Rattle.std.specs.Prelude.{◌≡◌, ◌+◌, ◌≤◌, ◌<◌, length, get_or};
 ghost use Rattle.road.specs.Roads.{nodes_of, road};
-ghost use Rattle.search.specs.workings.Queue.{Heap};
+ghost use Rattle.search.specs.Lent.{SameSlices};
+ghost use Rattle.search.specs.workings.Lent.{GoingOf, HeapOf};
 ghost use Rattle.search.specs.workings.Rows.{Asks, Row};
-ghost use Rattle.search.specs.workings.States.{All, Going, Leaves, Offered, Upto, mass};
+ghost use Rattle.search.specs.workings.States.{All, Leaves, Offered, Upto, mass};
 
-use crate::queue::{add, sooner, take, up};
-use road::{row, wide};
-
-// A label as wide as sums are.
-fn long(x: u32) -> u64
-    ensures { result ≡ x }
-{
-    x as u64
-}
+use crate::Queue;
+use crate::heap::sooner;
+use road::Graph;
 
 // Offers the label x to v, which is taken where v has none or a larger one; then v waits.
-fn offer(
-    heap: &mut [u32],
-    places: &mut [u32],
-    labels: &mut [u64],
-    count: usize,
-    v: usize,
-    x: u64,
-) -> usize
-    requires heap { Heap heap.old places.old count }
-    requires labels_len { length labels.old ≡ length places.old }
-    requires v_in_bounds { v < length places.old }
-    ensures heap_2 { Heap heap.new places.new result }
-    ensures offered { Offered v x labels.old places.old count labels.new places.new result }
+fn offer(labels: &mut [u64], queue: &mut Queue, v: usize, x: u64)
+    requires heap { HeapOf queue.old }
+    requires labels_len { length labels.old ≡ length queue.old.places.now }
+    requires v_in_bounds { v < length queue.old.places.now }
+    ensures heap_2 { HeapOf queue.new }
+    ensures offered { Offered v x labels.old queue.old.places.now queue.old.waiting labels.new queue.new.places.now queue.new.waiting }
+    ensures slices { SameSlices queue.old queue.new }
 {
     if sooner(x, labels[v]) {
         labels[v] = x;
-        let at = wide(places[v]);
+        let at = queue.places[v] as usize;
         if at == 0 {
-            add(heap, places, labels, count, v);
-            return count + 1;
+            queue.add(labels, v);
+            return;
         }
-        up(heap, places, labels, count, at - 1);
-        return count;
+        queue.up(labels, at - 1);
     }
-    count
 }
 
 // Offers u's neighbours the labels that its arcs give.
 fn relax(
-    starts: &[u32],
-    heads: &[u32],
-    weights: &[u32],
+    graph: &Graph,
     blocked: &[u8],
     source: usize,
     u: usize,
-    heap: &mut [u32],
-    places: &mut [u32],
     labels: &mut [u64],
-    waiting: usize,
-) -> usize
-    requires going { Going starts.now heads.now weights.now blocked.now source labels.old heap.old places.old waiting (Upto u (get_or starts.now u 0)) }
-    requires leaves { Leaves blocked.now source labels.old places.old u }
-    requires u_bound { u < nodes_of starts.now }
-    ensures going_2 { Going starts.now heads.now weights.now blocked.now source labels.new heap.new places.new result All }
-    ensures result_bound { mass labels.new + result ≤ mass labels.old + waiting }
+    queue: &mut Queue,
+)
+    requires going { GoingOf graph.now blocked.now source labels.old queue.old (Upto u (get_or graph.now.starts.now u 0)) }
+    requires leaves { Leaves blocked.now source labels.old queue.old.places.now u }
+    requires u_bound { u < nodes_of graph.now.starts.now }
+    ensures going_2 { GoingOf graph.now blocked.now source labels.new queue.new All }
+    ensures result_bound { mass labels.new + queue.new.waiting ≤ mass labels.old + queue.old.waiting }
+    ensures slices { SameSlices queue.old queue.new }
 {
+    let heads = graph.heads;
+    let weights = graph.weights;
     let base = labels[u];
-    let arcs = row(starts, u);
-    let end = arcs.end;
-    let mut i = arcs.first;
-    let mut count = waiting;
-    while i < end {
-        let x = base + long(weights[i]);
-        count = offer(heap, places, labels, count, wide(heads[i]), x);
-        i += 1;
+    let row = graph.row(u);
+    for p in row.start..row.end {
+        let x = base + u64::from(weights[p]);
+        offer(labels, queue, heads[p] as usize, x);
     }
-    count
 }
 
-// Takes a node that waits, and where it may be left offers its neighbours labels; gives how many
-// wait then.
-pub fn take_one(
-    starts: &[u32],
-    heads: &[u32],
-    weights: &[u32],
-    blocked: &[u8],
-    source: usize,
-    heap: &mut [u32],
-    places: &mut [u32],
-    labels: &mut [u64],
-    waiting: usize,
-) -> usize
-    requires going { Going starts.now heads.now weights.now blocked.now source labels.old heap.old places.old waiting All }
-    requires blocked_len { length blocked.now ≡ nodes_of starts.now }
-    requires le_waiting { 1 ≤ waiting }
-    ensures going_2 { Going starts.now heads.now weights.now blocked.now source labels.new heap.new places.new result All }
-    ensures result_bound { mass labels.new + result < mass labels.old + waiting }
+// Takes a node that waits, and where it may be left offers its neighbours labels.
+pub fn take_one(graph: &Graph, blocked: &[u8], source: usize, labels: &mut [u64], queue: &mut Queue)
+    requires going { GoingOf graph.now blocked.now source labels.old queue.old All }
+    requires blocked_len { length blocked.now ≡ nodes_of graph.now.starts.now }
+    requires le_waiting { 1 ≤ queue.old.waiting }
+    ensures going_2 { GoingOf graph.now blocked.now source labels.new queue.new All }
+    ensures result_bound { mass labels.new + queue.new.waiting < mass labels.old + queue.old.waiting }
+    ensures slices { SameSlices queue.old queue.new }
 {
-    let u = take(heap, places, labels, waiting);
-    if u == source {
-        return relax(
-            starts,
-            heads,
-            weights,
-            blocked,
-            source,
-            u,
-            heap,
-            places,
-            labels,
-            waiting - 1,
-        );
+    let u = queue.take(labels);
+    if u == source || blocked[u] == 0 {
+        relax(graph, blocked, source, u, labels, queue);
     }
-    let free = blocked[u] == 0;
-    if free {
-        return relax(
-            starts,
-            heads,
-            weights,
-            blocked,
-            source,
-            u,
-            heap,
-            places,
-            labels,
-            waiting - 1,
-        );
-    }
-    waiting - 1
 }
 
 // Takes nodes until none waits.
-fn run(
-    starts: &[u32],
-    heads: &[u32],
-    weights: &[u32],
-    blocked: &[u8],
-    source: usize,
-    heap: &mut [u32],
-    places: &mut [u32],
-    labels: &mut [u64],
-    waiting: usize,
-)
-    requires going { Going starts.now heads.now weights.now blocked.now source labels.old heap.old places.old waiting All }
-    requires blocked_len { length blocked.now ≡ nodes_of starts.now }
-    ensures { Going starts.now heads.now weights.now blocked.now source labels.new heap.new places.new 0 All }
+fn run(graph: &Graph, blocked: &[u8], source: usize, labels: &mut [u64], queue: &mut Queue)
+    requires going { GoingOf graph.now blocked.now source labels.old queue.old All }
+    requires blocked_len { length blocked.now ≡ nodes_of graph.now.starts.now }
+    ensures going_2 { GoingOf graph.now blocked.now source labels.new queue.new All }
+    ensures none { queue.new.waiting ≡ 0 }
+    ensures slices { SameSlices queue.old queue.new }
 {
-    let mut count = waiting;
-    while 0 < count {
-        count = take_one(
-            starts, heads, weights, blocked, source, heap, places, labels, count,
-        );
-    }
-}
-
-// Fills labels with zeros.
-pub fn clear_labels(s: &mut [u64])
-    ensures { s.new ≡ replicate (length s.old) 0 }
-{
-    let mut i = 0;
-    while i < s.len() {
-        s[i] = 0;
-        i += 1;
+    // A while: a node may wait again, so no range counts the takes.
+    while 0 < queue.waiting {
+        take_one(graph, blocked, source, labels, queue);
     }
 }
 
 // The search before its first take: the source alone has a label, and waits.
-pub fn begin(
-    starts: &[u32],
-    heads: &[u32],
-    weights: &[u32],
-    blocked: &[u8],
-    source: usize,
-    labels: &mut [u64],
-    heap: &mut [u32],
-    places: &mut [u32],
-)
-    requires { Asks starts.now heads.now weights.now blocked.now source labels.old heap.old places.old }
-    ensures { Going starts.now heads.now weights.now blocked.now source labels.new heap.new places.new 1 All }
+pub fn begin(graph: &Graph, blocked: &[u8], source: usize, labels: &mut [u64], queue: &mut Queue)
+    requires { Asks graph.now.starts.now graph.now.heads.now graph.now.weights.now blocked.now source labels.old queue.old.heap.now queue.old.places.now }
+    ensures going { GoingOf graph.now blocked.now source labels.new queue.new All }
+    ensures waiting { queue.new.waiting ≡ 1 }
+    ensures slices { SameSlices queue.old queue.new }
 {
-    clear_labels(labels);
+    labels.fill(0);
     labels[source] = 1;
-    add(heap, places, labels, 0, source);
+    queue.waiting = 0;
+    queue.add(labels, source);
 }
 
 // For every node the least weight over paths from the source with no blocked node strictly inside,
 // as a label: 0 where there is none, else the weight + 1. The queue's two slices are zeros before
 // and after.
-pub fn search(
-    starts: &[u32],
-    heads: &[u32],
-    weights: &[u32],
-    blocked: &[u8],
-    source: usize,
-    labels: &mut [u64],
-    heap: &mut [u32],
-    places: &mut [u32],
-)
-    requires { Asks starts.now heads.now weights.now blocked.now source labels.old heap.old places.old }
-    ensures row { Row (road starts.now heads.now weights.now) blocked.now source labels.new }
-    ensures heap_value { (heap.new ≡ heap.old) × (places.new ≡ places.old) }
+pub fn search(graph: &Graph, blocked: &[u8], source: usize, labels: &mut [u64], queue: &mut Queue)
+    requires { Asks graph.now.starts.now graph.now.heads.now graph.now.weights.now blocked.now source labels.old queue.old.heap.now queue.old.places.now }
+    ensures row { Row (road graph.now.starts.now graph.now.heads.now graph.now.weights.now) blocked.now source labels.new }
+    ensures heap_value { (queue.new.heap.now ≡ queue.old.heap.now) × (queue.new.places.now ≡ queue.old.places.now) }
+    ensures slices { SameSlices queue.old queue.new }
 {
-    begin(
-        starts, heads, weights, blocked, source, labels, heap, places,
-    );
-    run(
-        starts, heads, weights, blocked, source, heap, places, labels, 1,
-    );
+    begin(graph, blocked, source, labels, queue);
+    run(graph, blocked, source, labels, queue);
 }

@@ -1,18 +1,22 @@
-use Rattle.search.proofs.States.{relax_more, relax_end, row_listed, row_weighed}
-use mathlib.Core.Path.{ap}
 use native.Mathlib.Omega.{arith}
-use Prim.Native.Nat.{ℕ, ◌+◌}
-use Rattle.search.specs.workings.Rows.{label_at}
+use Rattle.search.proofs.States.{relax_more, relax_end, row_listed, row_near, row_weighed}
 use Rattle.search.proofs.labels.relax.Goals as goal
 
-pub bounds-weights-i : goal.bounds-weights-i
-bounds-weights-i c = omega (arith, row_weighed _ _ _ _ _ _ _ _ _ _ _ _ _ _ _ _ _ c.loop-i.invariant c.loop-i-test.true, row_listed _ _ _ _ _ _ _ _ _ _ _ _ _ _ _ _ _ c.loop-i.invariant c.loop-i-test.true)
+pub offset_bounds-weights-p : goal.offset_bounds-weights-p
+offset_bounds-weights-p c = omega (arith, row_near _ _ _ _ _ _ _ _ _ _ _ _ _ c.loop-p.invariant c.loop-p-test.true)
 
-pub bounds-heads-i : goal.bounds-heads-i
-bounds-heads-i c = row_listed _ _ _ _ _ _ _ _ _ _ _ _ _ _ _ _ _ c.loop-i.invariant c.loop-i-test.true
+pub offset_bounds-heads-p : goal.offset_bounds-heads-p
+offset_bounds-heads-p c = omega (arith, row_near _ _ _ _ _ _ _ _ _ _ _ _ _ c.loop-p.invariant c.loop-p-test.true)
 
-pub loop-i-preserved : goal.loop-i-preserved
-loop-i-preserved c = relax_more _ _ _ _ _ _ _ _ _ _ _ _ _ _ _ _ _ c.loop-i.invariant c.loop-i-test.true _ _ _ _ _ _ c.wide.ensures (ap (λ (y : ℕ). label_at c.args.labels.now c.args.u + y) c.long.ensures) c.offer-count.ensures.heap_2 c.offer-count.ensures.offered c.offer-count.auto.labels c.offer-count.auto.heap c.offer-count.auto.places
+pub bounds-weights-p : goal.bounds-weights-p
+bounds-weights-p c = row_weighed _ _ _ _ _ _ _ _ _ _ _ _ _ c.loop-p.invariant c.loop-p-test.true
+
+pub bounds-heads-p : goal.bounds-heads-p
+bounds-heads-p c = row_listed _ _ _ _ _ _ _ _ _ _ _ _ _ c.loop-p.invariant c.loop-p-test.true
+
+pub loop-p-preserved : goal.loop-p-preserved
+loop-p-preserved c =
+    relax_more _ _ _ _ _ _ _ _ _ _ _ _ _ c.loop-p.invariant c.loop-p-test.true _ _ _ c.from.ensures c.offer.ensures.heap_2 c.offer.ensures.offered c.offer.auto.labels c.offer.ensures.slices
 
 pub returns-clause-going_2 : goal.returns-clause-going_2
-returns-clause-going_2 c = relax_end _ _ _ _ _ _ _ _ _ _ _ _ _ _ _ _ _ c.loop-i.invariant c.loop-i-test.false
+returns-clause-going_2 c = relax_end _ _ _ _ _ _ _ _ _ _ _ _ _ c.loop-p.invariant c.loop-p-test.false

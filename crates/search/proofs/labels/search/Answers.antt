@@ -1,9 +1,15 @@
-use Rattle.search.proofs.States.{places_long, row_of, heap_empty, places_empty}
+use Rattle.search.proofs.States.{going_at, places_long, row_of, heap_empty, places_empty}
 use mathlib.Core.Path.{sym, ◌∙◌}
 use Rattle.search.proofs.labels.search.Goals as goal
 
 pub returns-clause-row : goal.returns-clause-row
-returns-clause-row c = row_of _ _ _ _ _ _ _ _ c.run.ensures
+returns-clause-row c = row_of _ _ _ _ _ _ _ _ (going_at _ _ _ _ _ _ _ _ _ _ c.run.ensures.none c.run.ensures.going_2)
 
 pub returns-clause-heap_value : goal.returns-clause-heap_value
-returns-clause-heap_value c = (heap_empty _ _ _ _ _ _ _ _ c.run.ensures _ (c.run.auto.heap ∙ c.begin.auto.heap) ∙ sym c.requires.heap_zero, places_empty _ _ _ _ _ _ _ _ c.run.ensures _ (c.run.auto.places ∙ c.begin.auto.places ∙ places_long _ _ _ _ _ _ _ _ c.requires) ∙ sym c.requires.places_zero)
+returns-clause-heap_value c =
+    let done = going_at _ _ _ _ _ _ _ _ _ _ c.run.ensures.none c.run.ensures.going_2 in
+    let first = c.begin.ensures.slices in
+    let then = c.run.ensures.slices in (
+      heap_empty _ _ _ _ _ _ _ _ done _ (then.heap_long ∙ first.heap_long) ∙ sym c.requires.heap_zero,
+      places_empty _ _ _ _ _ _ _ _ done _ (then.places_long ∙ first.places_long ∙ places_long _ _ _ _ _ _ _ _ c.requires) ∙ sym c.requires.places_zero,
+    )
