@@ -2,7 +2,7 @@
 use mathlib.Core.Path.{◌≡◌, refl, sym, ap, subst, ◌∙◌}
 use mathlib.Core.Logic.{◌⊎◌, inl, inr, ⊎_elim, ◌≢◌}
 use mathlib.Core.List.{List, [], ◌∷◌, reverse}
-use Prim.Native.Nat.{ℕ, ◌+◌, ◌≤◌, ◌<◌}
+use Prim.Native.Nat.{ℕ, ◌+◌, ◌≤◌, ◌<◌, max}
 use native.Mathlib.Decide.{dec_lt, ℕ_discrete}
 use native.Mathlib.Omega.{arith}
 use lib.ListN.{length, get_or, set, replicate, length-set, length-reverse, get_or-replicate, get_or-eq_default}
@@ -16,7 +16,6 @@ use Rattle.road.specs.Roads.{road}
 use Rattle.road.proofs.Faults.{road_proper}
 use Rattle.rule.specs.Rule.{Dropped, Needed, PathOf}
 use Rattle.pieces.specs.workings.Pieces.{Even, Pieced, Kept, Near, Fits, Row, Below, Waits, Level, Spreads, Spread}
-use Rattle.trails.specs.workings.Search.{Larger}
 use Rattle.pieces.specs.workings.Steps.{Prunable}
 use Rattle.trails.proofs.Completing.{joined_of}
 use Rattle.trails.proofs.Halves.{Halves, halves, halves_free}
@@ -233,29 +232,26 @@ module _ (starts heads weights starts' heads' weights' cover s : List ℕ) (g : 
     most_fits = fits_most (road_proper overlay_limits starts heads weights g.sound) t.pieced v
 
     pub two_fit :
-        (at but out into second q p first : ℕ) → at ≡ v → Row starts heads at (Below cover s but out) → Row starts' heads' at (Below cover s but into) → Larger out into second → p ≡ but →
-        q ≡ get_or s p 0 → Larger second q first → (size : ℕ) → size ≡ first + second + 1 → size < k → Fits (road starts heads weights) k cover s v size
-    two_fit at but out into second q p first e f f' l pe qe m size z h =
-        rw z
-        (fits_two (road_proper overlay_limits starts heads weights g.sound) t.pieced v but first second
-        (others_forth v but out second (subst (λ (x : ℕ). Row starts heads x (Below cover s but out)) e f) l.left)
-        (others_back v but into second (subst (λ (x : ℕ). Row starts' heads' x (Below cover s but into)) e f') l.right)
-        (omega (arith, m.right, ap (λ (x : ℕ). get_or s x 0) pe)) m.left (omega arith))
+        (but out into second first : ℕ) → Row starts heads v (Below cover s but out) → Row starts' heads' v (Below cover s but into) → second ≡ max out into →
+        first ≡ max second (get_or s but 0) → first + second + 1 < k → Fits (road starts heads weights) k cover s v (first + second + 1)
+    two_fit but out into second first f f' l m h =
+        fits_two (road_proper overlay_limits starts heads weights g.sound) t.pieced v but first second (others_forth v but out second f (omega arith)) (others_back v but into second f' (omega arith))
+        (omega arith) (omega arith) (omega arith)
 
-    -- v is dropped, which is byte 0
-    module _ (r : ℕ) (f : Fits (road starts heads weights) k cover s v r) (h : v < length cover) (at at' byte : ℕ) (e : at ≡ v) (e' : at' ≡ v) (z : byte ≡ 0) where
-      pub still_prunable : Prunable starts heads weights starts' heads' weights' (set cover at byte)
-      still_prunable = prunable_still starts heads weights starts' heads' weights' cover (set cover at byte) g (length-set cover at byte)
+    -- v is dropped
+    module _ (r : ℕ) (f : Fits (road starts heads weights) k cover s v r) (h : v < length cover) where
+      pub still_prunable : Prunable starts heads weights starts' heads' weights' (set cover v 0)
+      still_prunable = prunable_still starts heads weights starts' heads' weights' cover (set cover v 0) g (length-set cover v 0)
 
-      pub drop_spreads : (size : ℕ) → size ≡ r → Spreads (road starts heads weights) (set cover at byte) size (set s at' size) (set pieces 0 v) 0 1
-      drop_spreads size q = rw (z, q, e, e') (spread_begins t.pieced f h t.sizes_long pieces t.pieces_long)
+      pub drop_spreads : Spreads (road starts heads weights) (set cover v 0) r (set s v r) (set pieces 0 v) 0 1
+      drop_spreads = spread_begins t.pieced f h t.sizes_long pieces t.pieces_long
 
       pub drop_keeps :
-          (size : ℕ) → size ≡ r → {s' p' : List ℕ} → Spread (road starts heads weights) (set cover at byte) size (set s at' size) s' → length s' ≡ length (set s at' size) →
-          length p' ≡ length (set pieces 0 v) → Kept (road starts heads weights) k (set cover at byte) s' p'
-      drop_keeps size q {s'} {p'} d sl pl =
+          {s' p' : List ℕ} → Spread (road starts heads weights) (set cover v 0) r (set s v r) s' → length s' ≡ length (set s v r) →
+          length p' ≡ length (set pieces 0 v) → Kept (road starts heads weights) k (set cover v 0) s' p'
+      drop_keeps {s'} {p'} d sl pl =
           record {
-            pieced = rw (z, e) (pieced_dropped t.pieced f h t.sizes_long (road_proper overlay_limits starts heads weights g.sound) (rw (z, q, e, e') at d));
-            sizes_long = sl ∙ length-set s at' size ∙ t.sizes_long ∙ sym (length-set cover at byte);
-            pieces_long = pl ∙ length-set pieces 0 v ∙ t.pieces_long ∙ sym (length-set cover at byte);
+            pieced = pieced_dropped t.pieced f h t.sizes_long (road_proper overlay_limits starts heads weights g.sound) d;
+            sizes_long = sl ∙ length-set s v r ∙ t.sizes_long ∙ sym (length-set cover v 0);
+            pieces_long = pl ∙ length-set pieces 0 v ∙ t.pieces_long ∙ sym (length-set cover v 0);
           }

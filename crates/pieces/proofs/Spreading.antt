@@ -95,15 +95,12 @@ module _ {r : ℕ} where
   raises_grown (more {sizes' = s} q y h l) = grown_then (raises_grown q) (grown_one s y h l)
 
   -- one node is raised
-  module _ (s : List ℕ) (y z : ℕ) (e : z ≡ y) (h : y < length s) (l : get_or s y 0 < r) where
+  module _ (s : List ℕ) (y : ℕ) (h : y < length s) (l : get_or s y 0 < r) where
     pub push_room : (count n : ℕ) → count + under r s ≤ n → count < n
     push_room count n b = omega (arith, under_raised s y r h l)
 
-    pub raises_one : (p : List ℕ) (count : ℕ) → Raises r s p count (set s z r) (set p count y) (count + 1)
-    raises_one p count = subst (λ (x : ℕ). Raises r s p count (set s x r) (set p count y) (count + 1)) (sym e) (more none y h l)
-
-    pub raised_one : (cover : List ℕ) → Raised cover (set s z r) r y
-    raised_one cover = record { raised = λ d. omega (arith, ap (λ (x : ℕ). get_or (set s x r) y 0) e, get_or-set_same s y r 0 h) }
+    pub raises_one : (p : List ℕ) (count : ℕ) → Raises r s p count (set s y r) (set p count y) (count + 1)
+    raises_one p count = more none y h l
 
   -- what was raised stays raised
   pub raised_still : (cover : List ℕ) {s s' : List ℕ} → Grown r s s' → (y : ℕ) → Raised cover s r y → Raised cover s' r y
@@ -215,9 +212,9 @@ module _ {G : Graph} {cover : List ℕ} {r : ℕ} {sizes₀ : List ℕ} where
 
 -- The node at place i raises the nodes of its two rows.
 module _ (starts heads weights starts' heads' weights' cover : List ℕ) (r : ℕ) (sizes₀ : List ℕ) (t : TurnedRound starts heads weights starts' heads' weights')
-    {s p : List ℕ} {i c : ℕ} (g : Spreading (road starts heads weights) cover r sizes₀ s p i c) (b : i < c) (x : ℕ) (xe : x ≡ get_or p i 0) {s' p' : List ℕ} {c' : ℕ}
-    (q : Raises r s p c s' p' c') (f : Row starts heads x (Raised cover s' r)) {s'' p'' : List ℕ} {c'' : ℕ} (q' : Raises r s' p' c' s'' p'' c'')
-    (f' : Row starts' heads' x (Raised cover s'' r)) where
+    {s p : List ℕ} {i c : ℕ} (g : Spreading (road starts heads weights) cover r sizes₀ s p i c) (b : i < c) {s' p' : List ℕ} {c' : ℕ}
+    (q : Raises r s p c s' p' c') (f : Row starts heads (get_or p i 0) (Raised cover s' r)) {s'' p'' : List ℕ} {c'' : ℕ} (q' : Raises r s' p' c' s'' p'' c'')
+    (f' : Row starts' heads' (get_or p i 0) (Raised cover s'' r)) where
   pub spreading_more : Spreading (road starts heads weights) cover r sizes₀ s'' p'' (i + 1) c''
   spreading_more =
       record {
@@ -241,12 +238,12 @@ module _ (starts heads weights starts' heads' weights' cover : List ℕ) (r : �
       first : i < c''
       first = omega (arith, (raises_long q).2, (raises_long q').2)
 
-      same : get_or p'' i 0 ≡ x
-      same = raises_front q' i (omega (arith, (raises_long q).2)) ∙ raises_front q i b ∙ sym xe
+      same : get_or p'' i 0 ≡ get_or p i 0
+      same = raises_front q' i (omega (arith, (raises_long q).2)) ∙ raises_front q i b
 
       over_forth : (v w : ℕ) → (road starts heads weights).Step (get_or p'' i 0) v w → Dropped cover v → r ≤ get_or s'' v 0
       over_forth v w a d =
           (raised_still cover (raises_grown q') v (f.each v (joined_of (subst (λ (z : ℕ). (road starts heads weights).Step z v w) same a)))).raised d
 
       over_back : (v w : ℕ) → (road starts heads weights).Step v (get_or p'' i 0) w → Dropped cover v → r ≤ get_or s'' v 0
-      over_back v w a d = (f'.each v (joined_of (t.turns v x w (subst (λ (z : ℕ). (road starts heads weights).Step v z w) same a)))).raised d
+      over_back v w a d = (f'.each v (joined_of (t.turns v (get_or p i 0) w (subst (λ (z : ℕ). (road starts heads weights).Step v z w) same a)))).raised d

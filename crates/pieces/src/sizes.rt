@@ -8,8 +8,7 @@ ghost use Rattle.trails.specs.workings.Search.{Searchable};
 ghost use Rattle.pieces.specs.workings.Steps.{Prunable};
 ghost use Rattle.road.specs.workings.Left.{OfK};
 
-use road::{NodeCount, row, wide};
-use trails::larger;
+use road::{Graph, NodeCount};
 
 // Of p and x the one whose size is larger, where x is dropped; otherwise p.
 fn above(cover: &[u8], sizes: &[u32], p: u32, x: u32) -> u32
@@ -18,31 +17,26 @@ fn above(cover: &[u8], sizes: &[u32], p: u32, x: u32) -> u32
     requires x_in_bounds { x < length cover.now }
     ensures { result < length cover.now }
 {
-    if cover[wide(x)] != 0 {
-        return p;
+    if cover[x as usize] == 0 && sizes[p as usize] < sizes[x as usize] {
+        return x;
     }
-    if sizes[wide(x)] <= sizes[wide(p)] {
-        return p;
-    }
-    x
+    p
 }
 
 // The node of v's row with the largest size, or p. Which node it is no proof asks: the bound holds
 // with any, and is smallest with this one.
-fn top(starts: &[u32], heads: &[u32], cover: &[u8], sizes: &[u32], v: usize, p: u32) -> u32
-    requires searchable { Searchable starts.now heads.now (length cover.now) }
+fn top(graph: &Graph, cover: &[u8], sizes: &[u32], v: usize, p: u32) -> u32
+    requires searchable { Searchable graph.now.starts.now graph.now.heads.now (length cover.now) }
     requires sizes_len { length sizes.now ≡ length cover.now }
     requires v_in_bounds { v < length cover.now }
     requires p_in_bounds { p < length cover.now }
     ensures { result < length cover.now }
 {
-    let arcs = row(starts, v);
-    let end = arcs.end;
-    let mut i = arcs.first;
+    let row = graph.row(v);
+    let heads = graph.heads;
     let mut best = p;
-    while i < end {
+    for i in row.start..row.end {
         best = above(cover, sizes, best, heads[i]);
-        i += 1;
     }
     best
 }
@@ -53,29 +47,24 @@ fn size_of(cover: &[u8], sizes: &[u32], but: u32, x: u32) -> usize
     requires x_in_bounds { x < length cover.now }
     ensures { Below cover.now sizes.now but result x }
 {
-    if cover[wide(x)] != 0 {
+    if cover[x as usize] != 0 || x == but {
         return 0;
     }
-    if x == but {
-        return 0;
-    }
-    wide(sizes[wide(x)])
+    sizes[x as usize] as usize
 }
 
 // The largest size of a dropped node in v's row, `but` left out.
-fn largest(starts: &[u32], heads: &[u32], cover: &[u8], sizes: &[u32], v: usize, but: u32) -> usize
-    requires searchable { Searchable starts.now heads.now (length cover.now) }
+fn largest(graph: &Graph, cover: &[u8], sizes: &[u32], v: usize, but: u32) -> usize
+    requires searchable { Searchable graph.now.starts.now graph.now.heads.now (length cover.now) }
     requires sizes_len { length sizes.now ≡ length cover.now }
     requires v_in_bounds { v < length cover.now }
-    ensures { Row starts.now heads.now v (Below cover.now sizes.now but result) }
+    ensures { Row graph.now.starts.now graph.now.heads.now v (Below cover.now sizes.now but result) }
 {
-    let arcs = row(starts, v);
-    let end = arcs.end;
-    let mut i = arcs.first;
+    let row = graph.row(v);
+    let heads = graph.heads;
     let mut best = 0;
-    while i < end {
-        best = larger(best, size_of(cover, sizes, but, heads[i]));
-        i += 1;
+    for i in row.start..row.end {
+        best = best.max(size_of(cover, sizes, but, heads[i]));
     }
     best
 }
@@ -83,31 +72,27 @@ fn largest(starts: &[u32], heads: &[u32], cover: &[u8], sizes: &[u32], v: usize,
 // A size for v, if it is dropped: a path through v comes in by one neighbour and leaves by another,
 // so the two largest sizes and one more bound it. From k on a size says nothing.
 pub fn size_for(
-    starts: &[u32],
-    heads: &[u32],
-    weights: &[u32],
-    starts_back: &[u32],
-    heads_back: &[u32],
-    weights_back: &[u32],
+    graph: &Graph,
+    back: &Graph,
     k: NodeCount,
     cover: &[u8],
     pieces: &[u32],
     sizes: &[u32],
     v: u32,
 ) -> NodeCount
-    requires prunable { Prunable starts.now heads.now weights.now starts_back.now heads_back.now weights_back.now cover.now }
+    requires prunable { Prunable graph.now.starts.now graph.now.heads.now graph.now.weights.now back.now.starts.now back.now.heads.now back.now.weights.now cover.now }
     requires of_k { OfK k.0 }
-    requires kept { Kept (road starts.now heads.now weights.now) k.0 cover.now sizes.now pieces.now }
+    requires kept { Kept (road graph.now.starts.now graph.now.heads.now graph.now.weights.now) k.0 cover.now sizes.now pieces.now }
     requires v_in_bounds { v < length cover.now }
-    ensures { Fits (road starts.now heads.now weights.now) k.0 cover.now sizes.now v result.0 }
+    ensures { Fits (road graph.now.starts.now graph.now.heads.now graph.now.weights.now) k.0 cover.now sizes.now v result.0 }
 {
-    let at = wide(v);
-    let ahead = top(starts, heads, cover, sizes, at, v);
-    let p = top(starts_back, heads_back, cover, sizes, at, ahead);
-    let out = largest(starts, heads, cover, sizes, at, p);
-    let into = largest(starts_back, heads_back, cover, sizes, at, p);
-    let second = larger(out, into);
-    let first = larger(second, wide(sizes[wide(p)]));
+    let at = v as usize;
+    let ahead = top(graph, cover, sizes, at, v);
+    let p = top(back, cover, sizes, at, ahead);
+    let out = largest(graph, cover, sizes, at, p);
+    let into = largest(back, cover, sizes, at, p);
+    let second = out.max(into);
+    let first = second.max(sizes[p as usize] as usize);
     if k.0 <= first {
         return k;
     }
@@ -126,21 +111,17 @@ fn raise(cover: &[u8], pieces: &mut [u32], sizes: &mut [u32], count: usize, r: u
     ensures raises { Raises r sizes.old pieces.old count sizes.new pieces.new result }
     ensures raised { Raised cover.now sizes.new r y }
 {
-    if cover[wide(y)] != 0 {
+    if cover[y as usize] != 0 || r <= sizes[y as usize] {
         return count;
     }
-    if r <= sizes[wide(y)] {
-        return count;
-    }
-    sizes[wide(y)] = r;
+    sizes[y as usize] = r;
     pieces[count] = y;
     count + 1
 }
 
 // Raises the nodes of x's row.
 fn raise_row(
-    starts: &[u32],
-    heads: &[u32],
+    graph: &Graph,
     cover: &[u8],
     pieces: &mut [u32],
     sizes: &mut [u32],
@@ -148,20 +129,18 @@ fn raise_row(
     r: u32,
     x: usize,
 ) -> usize
-    requires searchable { Searchable starts.now heads.now (length cover.now) }
+    requires searchable { Searchable graph.now.starts.now graph.now.heads.now (length cover.now) }
     requires sizes_len { length sizes.old ≡ length cover.now }
     requires sizes_in_bounds { waiting + under r sizes.old ≤ length pieces.old }
     requires x_in_bounds { x < length cover.now }
     ensures raises { Raises r sizes.old pieces.old waiting sizes.new pieces.new result }
-    ensures row { Row starts.now heads.now x (Raised cover.now sizes.new r) }
+    ensures row { Row graph.now.starts.now graph.now.heads.now x (Raised cover.now sizes.new r) }
 {
-    let arcs = row(starts, x);
-    let end = arcs.end;
-    let mut i = arcs.first;
+    let row = graph.row(x);
+    let heads = graph.heads;
     let mut count = waiting;
-    while i < end {
+    for i in row.start..row.end {
         count = raise(cover, pieces, sizes, count, r, heads[i]);
-        i += 1;
     }
     count
 }
@@ -169,27 +148,24 @@ fn raise_row(
 // Spreads the size r from the node that waits, until no dropped node next to one of size r is of a
 // smaller size.
 pub fn spread(
-    starts: &[u32],
-    heads: &[u32],
-    weights: &[u32],
-    starts_back: &[u32],
-    heads_back: &[u32],
-    weights_back: &[u32],
+    graph: &Graph,
+    back: &Graph,
     cover: &[u8],
     pieces: &mut [u32],
     sizes: &mut [u32],
     r: u32,
 )
-    requires prunable { Prunable starts.now heads.now weights.now starts_back.now heads_back.now weights_back.now cover.now }
-    requires spreads { Spreads (road starts.now heads.now weights.now) cover.now r sizes.old pieces.old 0 1 }
-    ensures { Spread (road starts.now heads.now weights.now) cover.now r sizes.old sizes.new }
+    requires prunable { Prunable graph.now.starts.now graph.now.heads.now graph.now.weights.now back.now.starts.now back.now.heads.now back.now.weights.now cover.now }
+    requires spreads { Spreads (road graph.now.starts.now graph.now.heads.now graph.now.weights.now) cover.now r sizes.old pieces.old 0 1 }
+    ensures { Spread (road graph.now.starts.now graph.now.heads.now graph.now.weights.now) cover.now r sizes.old sizes.new }
 {
     let mut i = 0;
     let mut count = 1;
+    // A while: the list of those that wait grows as it is gone through, so no range counts it.
     while i < count {
-        let x = wide(pieces[i]);
-        count = raise_row(starts, heads, cover, pieces, sizes, count, r, x);
-        count = raise_row(starts_back, heads_back, cover, pieces, sizes, count, r, x);
+        let x = pieces[i] as usize;
+        count = raise_row(graph, cover, pieces, sizes, count, r, x);
+        count = raise_row(back, cover, pieces, sizes, count, r, x);
         i += 1;
     }
 }

@@ -1,13 +1,10 @@
 use Rattle.pieces.proofs.Spreading.{room_after, raises_then, raises_grown, raised_still}
-use Rattle.pieces.proofs.Rows.{row_none, row_listed, row_more}
+use Rattle.pieces.proofs.Rows.{row_none, row_more}
 use Rattle.pieces.specs.workings.Pieces.{none}
 use Rattle.pieces.proofs.sizes.raise_row.Goals as goal
 
 pub loop-i-init : goal.loop-i-init
-loop-i-init c = (none, row_none _ _ _ _ _ c.requires.searchable c.requires.x_in_bounds c.row-arcs.ensures.end _ _ c.row-arcs.ensures.first)
-
-pub bounds-heads-i : goal.bounds-heads-i
-bounds-heads-i c = row_listed _ _ _ _ _ c.requires.searchable c.requires.x_in_bounds c.row-arcs.ensures.end _ c.loop-i.invariant.1 c.loop-i-test.true
+loop-i-init c = (none, row_none _ _ _ _ _ c.requires.searchable c.requires.x_in_bounds c.row-row.ensures.end _ _ c.row-row.ensures.start)
 
 pub raise-count-requires-clause-sizes_in_bounds : goal.raise-count-requires-clause-sizes_in_bounds
 raise-count-requires-clause-sizes_in_bounds c = room_after c.loop-i.invariant.0 c.requires.sizes_in_bounds

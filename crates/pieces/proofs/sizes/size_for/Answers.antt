@@ -1,6 +1,6 @@
-use mathlib.Core.Path.{refl}
 use Rattle.pieces.proofs.Bounding.{two_fit}
 use Rattle.pieces.proofs.Ready.{search_back}
+use borrow.Author.Rules.{rules}
 use native.Mathlib.Omega.{arith}
 use Rattle.pieces.proofs.sizes.size_for.Goals as goal
 
@@ -11,4 +11,4 @@ pub largest-into-requires-clause-searchable : goal.largest-into-requires-clause-
 largest-into-requires-clause-searchable c = search_back _ _ _ _ _ _ _ c.requires.prunable
 
 pub returns : goal.returns
-returns c = two_fit _ _ _ _ _ _ _ _ c.requires.prunable _ _ c.requires.kept _ _ _ _ _ _ _ _ _ c.wide-at.ensures c.largest-out.ensures c.largest-into.ensures c.larger-second.ensures c.wide.ensures c.wide-2.ensures c.larger-first.ensures _ refl (omega (arith, c.if-k-size.false))
+returns c = two_fit _ _ _ _ _ _ _ _ c.requires.prunable _ _ c.requires.kept _ _ _ _ _ _ c.largest-out.ensures c.largest-into.ensures (search rules) (search rules) (omega (arith, c.if-k-size.false))

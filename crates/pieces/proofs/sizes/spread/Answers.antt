@@ -9,7 +9,7 @@ pub raise_row-count-requires-in-loop-i-clause-sizes_in_bounds : goal.raise_row-c
 raise_row-count-requires-in-loop-i-clause-sizes_in_bounds c = room_after c.raise_row-count.ensures.raises c.loop-i.invariant.spreads.room
 
 pub loop-i-preserved : goal.loop-i-preserved
-loop-i-preserved c = spreading_more _ _ _ _ _ _ _ _ _ c.requires.prunable.turned.round c.loop-i.invariant c.loop-i-test.true _ c.wide-x.ensures c.raise_row-count.ensures.raises c.raise_row-count.ensures.row c.raise_row-count-in-loop-i.ensures.raises c.raise_row-count-in-loop-i.ensures.row
+loop-i-preserved c = spreading_more _ _ _ _ _ _ _ _ _ c.requires.prunable.turned.round c.loop-i.invariant c.loop-i-test.true c.raise_row-count.ensures.raises c.raise_row-count.ensures.row c.raise_row-count-in-loop-i.ensures.raises c.raise_row-count-in-loop-i.ensures.row
 
 pub returns : goal.returns
 returns c = spreading_end c.loop-i.invariant c.loop-i-test.false
