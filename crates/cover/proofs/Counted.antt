@@ -1,12 +1,16 @@
 -- Counting the dropped nodes.
-use mathlib.Core.Path.{◌≡◌, ap}
-use mathlib.Core.Bool.{Bool, true, false}
+use mathlib.Core.Path.{◌≡◌, refl, ap}
+use mathlib.Core.Bool.{Bool, true, false, cond}
 use mathlib.Core.List.{List}
 use Prim.Native.Nat.{ℕ, ◌+◌, ◌≤◌, ◌<◌}
 use native.Mathlib.Omega.{arith}
+use borrow.Author.Tests.{ltb-true}
+use lib.Dec.{eqb, ltb}
 use lib.ListN.{length, take}
 use lib.Seq.{take_all}
-use Rattle.road.specs.Counting.{times}
+use Rattle.std.specs.List.{count_by}
+use Rattle.std.proofs.lemmas.List.Recursion.{is_count_by}
+use Rattle.road.specs.Counting.{bit, times}
 use Rattle.road.specs.Limits.{overlay_limits}
 use Rattle.road.specs.Roads.{road}
 use Rattle.road.proofs.Faults.{road_proper}
@@ -15,11 +19,16 @@ use Rattle.rule.proofs.Few.{few_unneeded}
 use Rattle.pieces.specs.workings.Steps.{Prunable}
 use Rattle.cover.specs.workings.Few.{Few}
 
-pub enough : (cover : List ℕ) (k : ℕ) → Few false cover k
-enough cover k = record { fewer = λ e. absurd (let z : ◌≡◌ {A = ℕ} 0 1 = cc in omega arith) }
+-- the same count as std's
+pub times_counted : (v : ℕ) (l : List ℕ) → times v l ≡ count_by (λ x. eqb x v) l
+times_counted v l = is_count_by (times v) (λ x. eqb x v) refl (λ x m. one (eqb x v) (times v m)) l
+  where
+    one : (b : Bool) (n : ℕ) → bit b + n ≡ cond b (1 + n) n
+    one true n = omega arith
+    one false n = omega arith
 
-pub counted_few : (cover : List ℕ) (k nodes i : ℕ) → nodes ≡ times 0 (take i cover) + 1 → length cover ≤ i → nodes < k → Few true cover k
-counted_few cover k nodes i e h l = record { fewer = λ _. omega (arith, ap (times 0) (take_all i cover h)) }
+pub counted_few : (cover : List ℕ) (k nodes i : ℕ) → nodes ≡ times 0 (take i cover) + 1 → length cover ≤ i → Few (ltb nodes k) cover k
+counted_few cover k nodes i e h = record { fewer = λ t. omega (arith, ltb-true nodes k t, ap (times 0) (take_all i cover h)) }
 
 -- then v is not needed
 pub few_stays_not :

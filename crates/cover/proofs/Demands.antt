@@ -24,8 +24,8 @@ use Rattle.road.proofs.Left.{cover_left}
 use Rattle.road.specs.workings.Left.{OfK}
 use Rattle.road.proofs.Refusals.{of_single, of_number, first_one, first_at, first_not_none, none_front, number_some, refusal_one, refusal_no_answer}
 use Rattle.road.proofs.Verdicts.{singles_both, cover_singles}
-use Rattle.cover.specs.declared.CoverAnswer.{CoverAnswer}
-use Rattle.cover.specs.declared.CoverAnswer.TheVariants.{Covered, Refused}
+use Rattle.road.specs.declared.NodeCount.{NodeCount}
+use Rattle.std.specs.Prelude.{Result, Ok, Err}
 use Rattle.cover.specs.Calls.{Areas, Outcome, refused, covered, answered, asked_lengths, faults_of, said_of}
 use Rattle.rule.specs.Promise.{Covers, Tight}
 use Rattle.rule.specs.Rule.{PathOf, Pruned}
@@ -41,11 +41,11 @@ pub record Answer (starts heads weights : List ℕ) (k : ℕ) (order : List ℕ)
   pub areas : after ≡ answered (nodes_of starts) (length heads) after.cover
 
 -- what is said loses nothing of the answer
-pub said_one : (a b : CoverAnswer) → said_of a ≡ said_of b → a ≡ b
-said_one (Covered c) (Covered d) e = ap (λ (n : ℕ). Covered (record { 0 = n })) (ap (λ (x : Said). get_or x.values 0 0) e)
-said_one (Covered c) (Refused r) e = absurd (refusal_no_answer r (c.0 ∷ []) (sym e))
-said_one (Refused r) (Covered c) e = absurd (refusal_no_answer r (c.0 ∷ []) e)
-said_one (Refused r) (Refused s) e = ap Refused (refusal_one r s e)
+pub said_one : (a b : Result NodeCount Refusal) → said_of a ≡ said_of b → a ≡ b
+said_one (Ok c) (Ok d) e = ap (λ (n : ℕ). Ok (record { 0 = n })) (ap (λ (x : Said). get_or x.values 0 0) e)
+said_one (Ok c) (Err r) e = absurd (refusal_no_answer r (c.0 ∷ []) (sym e))
+said_one (Err r) (Ok c) e = absurd (refusal_no_answer r (c.0 ∷ []) e)
+said_one (Err r) (Err s) e = ap Err (refusal_one r s e)
 
 module _ (starts heads weights : List ℕ) (k : ℕ) (order : List ℕ) (before : Areas) where
   none_of_input : None (faults_of starts heads weights k order before) → None (cover_faults starts heads weights k order)
@@ -82,7 +82,7 @@ module _ {starts heads weights : List ℕ} {k : ℕ} {order : List ℕ} {before 
 
   -- and so are two answers
   pub answer_one :
-      (a b : CoverAnswer) {after after' : Areas} → Outcome starts heads weights k order before (said_of a) after → Outcome starts heads weights k order before (said_of b) after' →
+      (a b : Result NodeCount Refusal) {after after' : Areas} → Outcome starts heads weights k order before (said_of a) after → Outcome starts heads weights k order before (said_of b) after' →
       (a ≡ b) × (after ≡ after')
   answer_one a b o p = let e = outcome_one o p in (said_one a b e.0, e.1)
 

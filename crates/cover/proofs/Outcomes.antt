@@ -7,21 +7,22 @@ use lib.ListN.{length, replicate}
 use Rattle.paths.specs.Lists.{Each}
 use Rattle.paths.proofs.Lists.{each_mem, mem_each}
 use Rattle.road.specs.declared.Refusal.{Refusal}
-use Rattle.road.specs.declared.Verdict.{Verdict}
-use Rattle.road.specs.declared.Verdict.TheVariants.{Passed, Refused}
+use Rattle.road.specs.declared.NodeCount.{NodeCount}
+use Rattle.std.specs.Prelude.{Result, Ok, Err}
+use Rattle.std.specs.Result.{IsErrAnd}
 use Rattle.road.specs.Counting.{times}
 use Rattle.road.specs.Chains.{cover_faults}
 use Rattle.road.specs.Faults.{lengths_fault}
 use Rattle.road.specs.Limits.{road_limits, overlay_limits}
-use Rattle.road.specs.Refusals.{None, refusal, answer}
-use Rattle.road.specs.workings.Verdicts.{Judged, Judges}
+use Rattle.road.specs.Refusals.{None, Said, refusal, answer}
+use Rattle.road.specs.workings.Verdicts.{Verdict, Judged, Judges}
 use Rattle.road.specs.Roads.{nodes_of, road}
 use Rattle.road.specs.workings.Sound.{Sound}
 use Rattle.turning.specs.workings.Turning.{Roomy, Turned}
 use Rattle.road.proofs.Faults.{sound_wider, road_proper, long_at}
 use Rattle.road.proofs.Left.{cover_left}
 use Rattle.road.proofs.Refusals.{judged_alone, stops, goes_on, unheld}
-use Rattle.cover.specs.Calls.{Areas, Outcome, refused, covered, answered, asked_lengths, faults_of}
+use Rattle.cover.specs.Calls.{Areas, Outcome, refused, covered, answered, asked_lengths, faults_of, said_of}
 use Rattle.cover.specs.workings.Ready.{Ready, Built}
 use Rattle.pieces.specs.workings.Pieces.{Kept}
 use Rattle.rule.specs.Rule.{PathOf, Prunes}
@@ -105,23 +106,32 @@ module _ (starts heads weights : List ℕ) (k : ℕ) (order : List ℕ) (a : Are
           }
 
 module _ (starts heads weights : List ℕ) (k : ℕ) (order : List ℕ) where
-  pub few_nodes : (v : Verdict) → Judges (cover_faults starts heads weights k order) v → v ≡ Passed → nodes_of starts ≤ 4096
+  pub few_nodes : (v : Verdict) → Judges (cover_faults starts heads weights k order) v → v ≡ Ok tt → nodes_of starts ≤ 4096
   few_nodes v j p = omega (arith, (cover_left starts heads weights k order (j.passed p)).sound.sized.most)
+
+-- what `?` hands on says the refusal
+handed_said : (w : Result NodeCount Refusal) (r : Refusal) → IsErrAnd w (λ s. s ≡ r) → said_of w ≡ refusal r
+handed_said (Ok x) r h = elim h [ ]
+handed_said (Err s) r h = ap refusal h
 
 -- From the checks to the outcome.
 module _ (starts heads weights : List ℕ) (k : ℕ) (order : List ℕ) (a : Areas) where
-  pub refused_early : (v : Verdict) (r : Refusal) → Judges (cover_faults starts heads weights k order) v → v ≡ Refused r → Outcome starts heads weights k order a (refusal r) a
-  refused_early v r j e = refused ((stops (cover_faults starts heads weights k order) (lengths_fault (asked_lengths (nodes_of starts) (length heads) a) ∷ []) e j).refused r e)
+  pub refused_early :
+      (v : Verdict) (r : Refusal) (w : Result NodeCount Refusal) → Judges (cover_faults starts heads weights k order) v → v ≡ Err r → IsErrAnd w (λ s. s ≡ r) →
+      Outcome starts heads weights k order a (said_of w) a
+  refused_early v r w j e h =
+      subst (λ (s : Said). Outcome starts heads weights k order a s a) (sym (handed_said w r h))
+      (refused ((stops (cover_faults starts heads weights k order) (lengths_fault (asked_lengths (nodes_of starts) (length heads) a) ∷ []) e j).refused r e))
 
-  module _ (u : Verdict) (j : Judges (cover_faults starts heads weights k order) u) (p : u ≡ Passed) where
+  module _ (u : Verdict) (j : Judges (cover_faults starts heads weights k order) u) (p : u ≡ Ok tt) where
     module _ (v : Verdict) (l : Judged (lengths_fault (asked_lengths (nodes_of starts) (length heads) a)) v) where
       all_judged : Judges (faults_of starts heads weights k order a) v
       all_judged = goes_on (cover_faults starts heads weights k order) (lengths_fault (asked_lengths (nodes_of starts) (length heads) a) ∷ []) p j (judged_alone l)
 
-      pub refused_late : (r : Refusal) → v ≡ Refused r → Outcome starts heads weights k order a (refusal r) a
-      refused_late r e = refused (all_judged.refused r e)
+      pub refused_late : (r : Refusal) (w : Result NodeCount Refusal) → v ≡ Err r → IsErrAnd w (λ s. s ≡ r) → Outcome starts heads weights k order a (said_of w) a
+      refused_late r w e h = subst (λ (s : Said). Outcome starts heads weights k order a s a) (sym (handed_said w r h)) (refused (all_judged.refused r e))
 
-      module _ (q : v ≡ Passed) where
+      module _ (q : v ≡ Ok tt) where
         pub none_holds : None (faults_of starts heads weights k order a)
         none_holds = all_judged.passed q
 

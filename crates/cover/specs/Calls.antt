@@ -1,19 +1,20 @@
 -- The cover call: what it is lent, what it says, and what it leaves.
-use Rattle.std.specs.Prelude.{List, [], ◌∷◌, ◌++◌, ℕ, ◌+◌, length, replicate}
+use Rattle.std.specs.Prelude.{List, [], ◌∷◌, ◌++◌, ℕ, ◌+◌, length, replicate, ◌≡◌, Result, Ok, Err}
 use Rattle.road.specs.declared.Refusal.{Refusal}
 use Rattle.road.specs.Chains.{cover_faults}
 use Rattle.road.specs.Counting.{times}
 use Rattle.road.specs.Faults.{lengths_fault}
 use Rattle.road.specs.Refusals.{Fault, First, None, Said, refusal, answer}
 use Rattle.road.specs.Roads.{nodes_of, road}
-use Rattle.cover.specs.declared.CoverAnswer.{CoverAnswer}
-use Rattle.cover.specs.declared.CoverAnswer.TheVariants.{Covered, Refused}
+use Rattle.road.specs.declared.NodeCount.{NodeCount}
+use Rattle.road.specs.Lent.{SameSlices}
+use Rattle.cover.specs.declared.Work.{Work}
 use Rattle.rule.specs.Rule.{PathOf, Pruned}
 
 -- the number and the values of each answer: the count of the cover's nodes, or a refusal's number alone
-abbrev pub said_of : CoverAnswer → Said
-said_of (Covered c) = answer (c.0 ∷ [])
-said_of (Refused r) = refusal r
+abbrev pub said_of : Result NodeCount Refusal → Said
+said_of (Ok c) = answer (c.0 ∷ [])
+said_of (Err r) = refusal r
 
 -- the slices that the call may write: the result, and six of work
 pub record Areas : Type 0 where
@@ -29,6 +30,17 @@ pub record Areas : Type 0 where
 abbrev pub areas : List ℕ → List ℕ → List ℕ → List ℕ → List ℕ → List ℕ → List ℕ → Areas
 areas cover starts heads weights marks pieces sizes =
     record { cover = cover; starts = starts; heads = heads; weights = weights; marks = marks; pieces = pieces; sizes = sizes }
+
+-- and from the work as the call is lent it
+abbrev pub areas_of : List ℕ → Work → Areas
+areas_of cover w = areas cover w.back.starts.now w.back.heads.now w.back.weights.now w.marks.now w.pieces.now w.sizes.now
+
+-- the work's slices are the same slices, whatever they hold
+pub record SameWork (old new : Work) : Type 0 where
+  pub back : SameSlices old.back new.back
+  pub marks : new.marks.ghost_name ≡ old.marks.ghost_name
+  pub pieces : new.pieces.ghost_name ≡ old.pieces.ghost_name
+  pub sizes : new.sizes.ghost_name ≡ old.sizes.ghost_name
 
 -- their lengths, each with the length asked
 abbrev pub asked_lengths : ℕ → ℕ → Areas → List (ℕ × ℕ)

@@ -1,189 +1,89 @@
 // The cover call.
-ghost use Rattle.std.specs.Prelude.{◌≡◌, [], ◌∷◌, ◌≤◌, length, replicate};
+ghost use Rattle.std.specs.Prelude.{◌≡◌, ◌≤◌};
 ghost use Rattle.road.specs.Counting.{times};
 ghost use Rattle.road.specs.Faults.{lengths_fault};
 ghost use Rattle.road.specs.workings.Verdicts.{Judged};
-ghost use Rattle.cover.specs.workings.Ready.{Built, Ready};
-ghost use Rattle.cover.specs.Calls.{areas, Outcome, asked_lengths, said_of};
+ghost use Rattle.cover.specs.workings.Ready.{Built, Cleared, Ready};
+ghost use Rattle.cover.specs.Calls.{areas_of, Outcome, SameWork, asked_lengths, said_of};
 
-use crate::CoverAnswer;
+use crate::Work;
 use crate::pruning::prune;
-use road::{
-    ArcCount, NodeCount, Refusal, Verdict, check_cover_input, clear, fill_bytes, node_count,
-};
+use road::{ArcCount, Graph, NodeCount, Refusal, check_cover_input, check_lengths};
 use turning::turn;
 
 // How many of the bytes are 1.
 fn count_ones(s: &[u8]) -> NodeCount
     ensures { result.0 ≡ times 1 s.now }
 {
-    let mut count = 0;
-    let mut i = 0;
-    while i < s.len() {
-        if s[i] == 1 {
-            count += 1;
-        }
-        i += 1;
-    }
-    NodeCount(count)
+    NodeCount(s.iter().filter(|byte| **byte == 1).count())
 }
 
 // Check 11: the result and the work, of a graph with n nodes and m arcs.
-fn check_lengths(
-    n: NodeCount,
-    m: ArcCount,
-    cover: &[u8],
-    starts_back: &[u32],
-    heads_back: &[u32],
-    weights_back: &[u32],
-    marks: &[u8],
-    pieces: &[u32],
-    sizes: &[u32],
-) -> Verdict
+fn check_areas(n: NodeCount, m: ArcCount, cover: &[u8], work: &Work) -> Result<(), Refusal>
     requires { n.0 ≤ 4096 }
-    ensures { Judged (lengths_fault (asked_lengths n.0 m.0 (areas cover.now starts_back.now heads_back.now weights_back.now marks.now pieces.now sizes.now))) result }
+    ensures { Judged (lengths_fault (asked_lengths n.0 m.0 (areas_of cover.now work.now))) result }
 {
-    if cover.len() != n.0 {
-        return Verdict::Refused(Refusal::Lengths);
-    }
-    if starts_back.len() != n.0 + 1 {
-        return Verdict::Refused(Refusal::Lengths);
-    }
-    if heads_back.len() != m.0 {
-        return Verdict::Refused(Refusal::Lengths);
-    }
-    if weights_back.len() != m.0 {
-        return Verdict::Refused(Refusal::Lengths);
-    }
-    if marks.len() != n.0 {
-        return Verdict::Refused(Refusal::Lengths);
-    }
-    if pieces.len() != n.0 {
-        return Verdict::Refused(Refusal::Lengths);
-    }
-    if sizes.len() != n.0 {
-        return Verdict::Refused(Refusal::Lengths);
-    }
-    Verdict::Passed
+    check_lengths(&[
+        (cover.len(), n.0),
+        (work.back.starts.len(), n.0 + 1),
+        (work.back.heads.len(), m.0),
+        (work.back.weights.len(), m.0),
+        (work.marks.len(), n.0),
+        (work.pieces.len(), n.0),
+        (work.sizes.len(), n.0),
+    ])
 }
 
 // Fills the work with zeros.
-fn clear_work(
-    starts_back: &mut [u32],
-    heads_back: &mut [u32],
-    weights_back: &mut [u32],
-    marks: &mut [u8],
-    pieces: &mut [u32],
-    sizes: &mut [u32],
-)
-    ensures starts_back_value { (starts_back.new ≡ replicate (length starts_back.old) 0) × (heads_back.new ≡ replicate (length heads_back.old) 0) × (weights_back.new ≡ replicate (length weights_back.old) 0) }
-    ensures marks_value { (marks.new ≡ replicate (length marks.old) 0) × (pieces.new ≡ replicate (length pieces.old) 0) × (sizes.new ≡ replicate (length sizes.old) 0) }
+fn clear(work: &mut Work)
+    ensures cleared { Cleared work.old work.new }
+    ensures same_work { SameWork work.old work.new }
 {
-    clear(starts_back);
-    clear(heads_back);
-    clear(weights_back);
-    fill_bytes(marks, 0);
-    clear(pieces);
-    clear(sizes);
+    work.back.starts.fill(0);
+    work.back.heads.fill(0);
+    work.back.weights.fill(0);
+    work.marks.fill(0);
+    work.pieces.fill(0);
+    work.sizes.fill(0);
 }
 
 // Builds the cover, everything being checked.
-fn build(
-    starts: &[u32],
-    heads: &[u32],
-    weights: &[u32],
-    k: NodeCount,
-    order: &[u32],
-    cover: &mut [u8],
-    starts_back: &mut [u32],
-    heads_back: &mut [u32],
-    weights_back: &mut [u32],
-    marks: &mut [u8],
-    pieces: &mut [u32],
-    sizes: &mut [u32],
-) -> NodeCount
-    requires { Ready starts.now heads.now weights.now k.0 order.now (areas cover.old starts_back.old heads_back.old weights_back.old marks.old pieces.old sizes.old) }
-    ensures { Built starts.now heads.now weights.now k.0 order.now (areas cover.new starts_back.new heads_back.new weights_back.new marks.new pieces.new sizes.new) result.0 }
+fn build(graph: &Graph, k: NodeCount, order: &[u32], cover: &mut [u8], work: &mut Work) -> NodeCount
+    requires { Ready graph.now.starts.now graph.now.heads.now graph.now.weights.now k.0 order.now (areas_of cover.old work.old) }
+    ensures built { Built graph.now.starts.now graph.now.heads.now graph.now.weights.now k.0 order.now (areas_of cover.new work.new) result.0 }
+    ensures same_work { SameWork work.old work.new }
 {
-    fill_bytes(cover, 1);
+    cover.fill(1);
     // A size left over would be sound but useless: it would hide rejections.
-    clear(sizes);
-    turn(
-        starts,
-        heads,
-        weights,
-        starts_back,
-        heads_back,
-        weights_back,
-    );
+    work.sizes.fill(0);
+    turn(graph, &mut work.back);
     prune(
-        starts,
-        heads,
-        weights,
-        starts_back,
-        heads_back,
-        weights_back,
+        graph,
+        &work.back.lent(),
         k,
         order,
         cover,
-        pieces,
-        sizes,
+        work.pieces,
+        work.sizes,
     );
-    clear_work(starts_back, heads_back, weights_back, marks, pieces, sizes);
+    clear(work);
     count_ones(cover)
 }
 
 // Picks the points: the cover of the paths of k nodes that pruning in the order lent yields, a byte
 // for each node, and how many they are.
 pub fn cover(
-    starts: &[u32],
-    heads: &[u32],
-    weights: &[u32],
+    graph: &Graph,
     k: NodeCount,
     order: &[u32],
     cover: &mut [u8],
-    starts_back: &mut [u32],
-    heads_back: &mut [u32],
-    weights_back: &mut [u32],
-    marks: &mut [u8],
-    pieces: &mut [u32],
-    sizes: &mut [u32],
-) -> CoverAnswer
-    ensures { Outcome starts.now heads.now weights.now k.0 order.now (areas cover.old starts_back.old heads_back.old weights_back.old marks.old pieces.old sizes.old) (said_of result) (areas cover.new starts_back.new heads_back.new weights_back.new marks.new pieces.new sizes.new) }
+    work: &mut Work,
+) -> Result<NodeCount, Refusal>
+    ensures outcome { Outcome graph.now.starts.now graph.now.heads.now graph.now.weights.now k.0 order.now (areas_of cover.old work.old) (said_of result) (areas_of cover.new work.new) }
+    ensures same_work { SameWork work.old work.new }
 {
-    let input = check_cover_input(starts, heads, weights, k, order);
-    if let Verdict::Refused(r) = input {
-        return CoverAnswer::Refused(r);
-    }
-    let n = node_count(starts);
-    let m = ArcCount(heads.len());
-    let lengths = check_lengths(
-        n,
-        m,
-        cover,
-        starts_back,
-        heads_back,
-        weights_back,
-        marks,
-        pieces,
-        sizes,
-    );
-    if let Verdict::Refused(r) = lengths {
-        return CoverAnswer::Refused(r);
-    }
-    let count = build(
-        starts,
-        heads,
-        weights,
-        k,
-        order,
-        cover,
-        starts_back,
-        heads_back,
-        weights_back,
-        marks,
-        pieces,
-        sizes,
-    );
-    CoverAnswer::Covered(count)
+    check_cover_input(graph, k, order)?;
+    let arcs = ArcCount(graph.heads.len());
+    check_areas(graph.node_count(), arcs, cover, work)?;
+    Ok(build(graph, k, order, cover, work))
 }

@@ -13,44 +13,24 @@ ghost use Rattle.pieces.specs.workings.Steps.{Prunable};
 ghost use Rattle.road.specs.workings.Left.{OfK};
 
 use pieces::{size_for, spread};
-use road::{NodeCount, wide};
+use road::{Graph, NodeCount};
 use trails::{Trail, inward, longest};
 
 // Whether v cannot be dropped.
-fn is_needed(
-    starts: &[u32],
-    heads: &[u32],
-    weights: &[u32],
-    starts_back: &[u32],
-    heads_back: &[u32],
-    weights_back: &[u32],
-    k: NodeCount,
-    cover: &[u8],
-    v: u32,
-) -> bool
-    requires prunable { Prunable starts.now heads.now weights.now starts_back.now heads_back.now weights_back.now cover.now }
+fn is_needed(graph: &Graph, back: &Graph, k: NodeCount, cover: &[u8], v: u32) -> bool
+    requires prunable { Prunable graph.now.starts.now graph.now.heads.now graph.now.weights.now back.now.starts.now back.now.heads.now back.now.weights.now cover.now }
     requires of_k { OfK k.0 }
     requires v_in_bounds { v < length cover.now }
-    ensures { Tells result (Needed (PathOf (road starts.now heads.now weights.now) k.0) cover.now v) }
+    ensures { Tells result (Needed (PathOf (road graph.now.starts.now graph.now.heads.now graph.now.weights.now) k.0) cover.now v) }
 {
+    let at = v as usize;
     let trail = Trail::of(v);
     let most = NodeCount(k.0 - 1);
-    let reach = longest(starts, heads, cover, trail, wide(v), most);
+    let reach = longest(graph, cover, trail, at, most);
     if reach.0 == most.0 {
         return true;
     }
-    inward(
-        starts,
-        heads,
-        starts_back,
-        heads_back,
-        cover,
-        trail,
-        wide(v),
-        wide(v),
-        most,
-        reach,
-    )
+    inward(graph, back, cover, trail, at, at, most, reach)
 }
 
 // Whether the dropped nodes and one more are fewer than k. Counting ends once they are not.
@@ -58,42 +38,33 @@ fn too_few(cover: &[u8], k: NodeCount) -> bool
     ensures { Few result cover.now k.0 }
 {
     let mut nodes = 1;
-    let mut v = 0;
-    while v < cover.len() {
+    for byte in cover {
         if k.0 <= nodes {
             return false;
         }
-        if cover[v] == 0 {
+        if *byte == 0 {
             nodes += 1;
         }
-        v += 1;
     }
-    if nodes < k.0 {
-        return true;
-    }
-    false
+    nodes < k.0
 }
 
 // Whether v cannot be dropped, where its size would be r. A size below k tells it without a search,
 // and so do too few dropped nodes.
 fn stays(
-    starts: &[u32],
-    heads: &[u32],
-    weights: &[u32],
-    starts_back: &[u32],
-    heads_back: &[u32],
-    weights_back: &[u32],
+    graph: &Graph,
+    back: &Graph,
     k: NodeCount,
     cover: &[u8],
     sizes: &[u32],
     v: u32,
     r: NodeCount,
 ) -> bool
-    requires prunable { Prunable starts.now heads.now weights.now starts_back.now heads_back.now weights_back.now cover.now }
+    requires prunable { Prunable graph.now.starts.now graph.now.heads.now graph.now.weights.now back.now.starts.now back.now.heads.now back.now.weights.now cover.now }
     requires of_k { OfK k.0 }
-    requires fits { Fits (road starts.now heads.now weights.now) k.0 cover.now sizes.now v r.0 }
+    requires fits { Fits (road graph.now.starts.now graph.now.heads.now graph.now.weights.now) k.0 cover.now sizes.now v r.0 }
     requires v_in_bounds { v < length cover.now }
-    ensures { Tells result (Needed (PathOf (road starts.now heads.now weights.now) k.0) cover.now v) }
+    ensures { Tells result (Needed (PathOf (road graph.now.starts.now graph.now.heads.now graph.now.weights.now) k.0) cover.now v) }
 {
     if r.0 < k.0 {
         return false;
@@ -101,27 +72,13 @@ fn stays(
     if too_few(cover, k) {
         return false;
     }
-    is_needed(
-        starts,
-        heads,
-        weights,
-        starts_back,
-        heads_back,
-        weights_back,
-        k,
-        cover,
-        v,
-    )
+    is_needed(graph, back, k, cover, v)
 }
 
 // Drops v, whose size is then r, and makes the sizes even again.
 fn drop_node(
-    starts: &[u32],
-    heads: &[u32],
-    weights: &[u32],
-    starts_back: &[u32],
-    heads_back: &[u32],
-    weights_back: &[u32],
+    graph: &Graph,
+    back: &Graph,
     k: NodeCount,
     cover: &mut [u8],
     pieces: &mut [u32],
@@ -129,132 +86,62 @@ fn drop_node(
     v: u32,
     r: NodeCount,
 )
-    requires prunable { Prunable starts.now heads.now weights.now starts_back.now heads_back.now weights_back.now cover.old }
+    requires prunable { Prunable graph.now.starts.now graph.now.heads.now graph.now.weights.now back.now.starts.now back.now.heads.now back.now.weights.now cover.old }
     requires of_k { OfK k.0 }
-    requires kept { Kept (road starts.now heads.now weights.now) k.0 cover.old sizes.old pieces.old }
-    requires fits { Fits (road starts.now heads.now weights.now) k.0 cover.old sizes.old v r.0 }
+    requires kept { Kept (road graph.now.starts.now graph.now.heads.now graph.now.weights.now) k.0 cover.old sizes.old pieces.old }
+    requires fits { Fits (road graph.now.starts.now graph.now.heads.now graph.now.weights.now) k.0 cover.old sizes.old v r.0 }
     requires v_in_bounds { v < length cover.old }
     ensures cover_value { cover.new ≡ set cover.old v 0 }
-    ensures kept_2 { Kept (road starts.now heads.now weights.now) k.0 cover.new sizes.new pieces.new }
+    ensures kept_2 { Kept (road graph.now.starts.now graph.now.heads.now graph.now.weights.now) k.0 cover.new sizes.new pieces.new }
 {
     let size = r.0 as u32;
-    cover[wide(v)] = 0;
-    sizes[wide(v)] = size;
+    cover[v as usize] = 0;
+    sizes[v as usize] = size;
     pieces[0] = v;
-    spread(
-        starts,
-        heads,
-        weights,
-        starts_back,
-        heads_back,
-        weights_back,
-        cover,
-        pieces,
-        sizes,
-        size,
-    );
+    spread(graph, back, cover, pieces, sizes, size);
 }
 
 // Takes one node.
 fn take_node(
-    starts: &[u32],
-    heads: &[u32],
-    weights: &[u32],
-    starts_back: &[u32],
-    heads_back: &[u32],
-    weights_back: &[u32],
+    graph: &Graph,
+    back: &Graph,
     k: NodeCount,
     cover: &mut [u8],
     pieces: &mut [u32],
     sizes: &mut [u32],
     v: u32,
 )
-    requires prunable { Prunable starts.now heads.now weights.now starts_back.now heads_back.now weights_back.now cover.old }
+    requires prunable { Prunable graph.now.starts.now graph.now.heads.now graph.now.weights.now back.now.starts.now back.now.heads.now back.now.weights.now cover.old }
     requires of_k { OfK k.0 }
-    requires kept { Kept (road starts.now heads.now weights.now) k.0 cover.old sizes.old pieces.old }
+    requires kept { Kept (road graph.now.starts.now graph.now.heads.now graph.now.weights.now) k.0 cover.old sizes.old pieces.old }
     requires v_in_bounds { v < length cover.old }
-    ensures took { Took (PathOf (road starts.now heads.now weights.now) k.0) v cover.old cover.new }
-    ensures kept_2 { Kept (road starts.now heads.now weights.now) k.0 cover.new sizes.new pieces.new }
+    ensures took { Took (PathOf (road graph.now.starts.now graph.now.heads.now graph.now.weights.now) k.0) v cover.old cover.new }
+    ensures kept_2 { Kept (road graph.now.starts.now graph.now.heads.now graph.now.weights.now) k.0 cover.new sizes.new pieces.new }
 {
-    let r = size_for(
-        starts,
-        heads,
-        weights,
-        starts_back,
-        heads_back,
-        weights_back,
-        k,
-        cover,
-        pieces,
-        sizes,
-        v,
-    );
-    if stays(
-        starts,
-        heads,
-        weights,
-        starts_back,
-        heads_back,
-        weights_back,
-        k,
-        cover,
-        sizes,
-        v,
-        r,
-    ) {
+    let r = size_for(graph, back, k, cover, pieces, sizes, v);
+    if stays(graph, back, k, cover, sizes, v, r) {
         return;
     }
-    drop_node(
-        starts,
-        heads,
-        weights,
-        starts_back,
-        heads_back,
-        weights_back,
-        k,
-        cover,
-        pieces,
-        sizes,
-        v,
-        r,
-    );
+    drop_node(graph, back, k, cover, pieces, sizes, v, r);
 }
 
 // Takes the nodes one by one.
 pub fn prune(
-    starts: &[u32],
-    heads: &[u32],
-    weights: &[u32],
-    starts_back: &[u32],
-    heads_back: &[u32],
-    weights_back: &[u32],
+    graph: &Graph,
+    back: &Graph,
     k: NodeCount,
     order: &[u32],
     cover: &mut [u8],
     pieces: &mut [u32],
     sizes: &mut [u32],
 )
-    requires prunable { Prunable starts.now heads.now weights.now starts_back.now heads_back.now weights_back.now cover.old }
+    requires prunable { Prunable graph.now.starts.now graph.now.heads.now graph.now.weights.now back.now.starts.now back.now.heads.now back.now.weights.now cover.old }
     requires of_k { OfK k.0 }
-    requires kept { Kept (road starts.now heads.now weights.now) k.0 cover.old sizes.old pieces.old }
+    requires kept { Kept (road graph.now.starts.now graph.now.heads.now graph.now.weights.now) k.0 cover.old sizes.old pieces.old }
     requires each { Each (λ v. v < length cover.old) order.now }
-    ensures { Prunes (PathOf (road starts.now heads.now weights.now) k.0) order.now cover.old cover.new }
+    ensures { Prunes (PathOf (road graph.now.starts.now graph.now.heads.now graph.now.weights.now) k.0) order.now cover.old cover.new }
 {
-    let mut i = 0;
-    while i < order.len() {
-        take_node(
-            starts,
-            heads,
-            weights,
-            starts_back,
-            heads_back,
-            weights_back,
-            k,
-            cover,
-            pieces,
-            sizes,
-            order[i],
-        );
-        i += 1;
+    for v in order {
+        take_node(graph, back, k, cover, pieces, sizes, *v);
     }
 }

@@ -1,5 +1,5 @@
 -- What the checks leave, and what building leaves.
-use Rattle.std.specs.Prelude.{◌≡◌, List, ℕ, ◌+◌, length}
+use Rattle.std.specs.Prelude.{◌≡◌, List, ℕ, ◌+◌, length, replicate}
 use Rattle.road.specs.Counting.{times}
 use Rattle.road.specs.Faults.{Permutation}
 use Rattle.road.specs.Limits.{road_limits}
@@ -7,6 +7,7 @@ use Rattle.road.specs.Roads.{nodes_of, road}
 use Rattle.road.specs.workings.Sound.{Sound}
 use Rattle.rule.specs.Rule.{PathOf, Pruned}
 use Rattle.road.specs.workings.Left.{OfK}
+use Rattle.cover.specs.declared.Work.{Work}
 use Rattle.cover.specs.Calls.{Areas, answered}
 
 -- what the checks leave: the graph is well formed, k and the order are right, and so are the lengths
@@ -27,3 +28,12 @@ pub record Built (starts heads weights : List ℕ) (k : ℕ) (order : List ℕ) 
   pub pruned : Pruned (PathOf (road starts heads weights) k) (nodes_of starts) order after.cover
   pub count_right : count ≡ times 1 after.cover
   pub zeros : after ≡ answered (nodes_of starts) (length heads) after.cover
+
+-- the work filled with zeros
+pub record Cleared (old new : Work) : Type 0 where
+  pub starts : new.back.starts.now ≡ replicate (length old.back.starts.now) 0
+  pub heads : new.back.heads.now ≡ replicate (length old.back.heads.now) 0
+  pub weights : new.back.weights.now ≡ replicate (length old.back.weights.now) 0
+  pub marks : new.marks.now ≡ replicate (length old.marks.now) 0
+  pub pieces : new.pieces.now ≡ replicate (length old.pieces.now) 0
+  pub sizes : new.sizes.now ≡ replicate (length old.sizes.now) 0

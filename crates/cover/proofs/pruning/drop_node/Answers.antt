@@ -1,10 +1,8 @@
-use native.Mathlib.Omega.{arith}
 use Rattle.pieces.proofs.Bounding.{drop_spreads, drop_keeps}
-use mathlib.Core.Path.{refl}
 use Rattle.cover.proofs.pruning.drop_node.Goals as goal
 
 pub spread-requires-clause-spreads : goal.spread-requires-clause-spreads
-spread-requires-clause-spreads c = drop_spreads _ _ _ _ _ _ _ c.args.sizes.now c.requires.prunable c.args.pieces.now _ c.requires.kept _ _ c.requires.fits c.requires.v_in_bounds _ _ _ c.wide.ensures c.wide-2.ensures (omega arith) _ refl
+spread-requires-clause-spreads c = drop_spreads _ _ _ _ _ _ _ c.args.sizes.now c.requires.prunable c.args.pieces.now _ c.requires.kept _ _ c.requires.fits c.requires.v_in_bounds
 
 pub returns-clause-kept_2 : goal.returns-clause-kept_2
-returns-clause-kept_2 c = drop_keeps _ _ _ _ _ _ _ c.args.sizes.now c.requires.prunable c.args.pieces.now _ c.requires.kept _ _ c.requires.fits c.requires.v_in_bounds _ _ _ c.wide.ensures c.wide-2.ensures (omega arith) _ refl c.spread.ensures c.spread.auto.sizes c.spread.auto.pieces
+returns-clause-kept_2 c = drop_keeps _ _ _ _ _ _ _ c.args.sizes.now c.requires.prunable c.args.pieces.now _ c.requires.kept _ _ c.requires.fits c.requires.v_in_bounds c.spread.ensures c.spread.auto.sizes c.spread.auto.pieces
