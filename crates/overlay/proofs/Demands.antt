@@ -22,8 +22,8 @@ use Rattle.road.proofs.Left.{road_and_set_left}
 use Rattle.road.proofs.Refusals.{of_single, of_number, first_one, first_at, first_early, first_late, first_split, first_not_none, none_front, number_some, refusal_one, refusal_no_answer, told}
 use Rattle.road.proofs.Rows.{owner_node, owner_of}
 use Rattle.road.proofs.Verdicts.{singles_both, road_and_set_singles}
-use Rattle.overlay.specs.declared.OverlayAnswer.{OverlayAnswer}
-use Rattle.overlay.specs.declared.OverlayAnswer.TheVariants.{Built, Refused}
+use Rattle.std.specs.Prelude.{Result, Ok, Err}
+use Rattle.road.specs.declared.ArcCount.{ArcCount}
 use Rattle.overlay.specs.Calls.{Areas, Outcome, refused, full, built, all_faults, room_fault, answered, asked_lengths, faults_of, said_of}
 use Rattle.overlay.specs.Lent.{BadOverlay}
 use Rattle.overlay.specs.Overlays.{OverlayArc, OverlayOf, ArcsInAll}
@@ -80,11 +80,11 @@ pub record Answer (starts heads weights chosen : List ℕ) (before : Areas) (sai
   pub counted : ArcsInAll (road starts heads weights) chosen count
 
 -- what is said loses nothing of the answer
-pub said_one : (a b : OverlayAnswer) → said_of a ≡ said_of b → a ≡ b
-said_one (Built c) (Built d) e = ap (λ (n : ℕ). Built (record { 0 = n })) (ap (λ (x : Said). get_or x.values 0 0) e)
-said_one (Built c) (Refused r) e = absurd (refusal_no_answer r (c.0 ∷ []) (sym e))
-said_one (Refused r) (Built c) e = absurd (refusal_no_answer r (c.0 ∷ []) e)
-said_one (Refused r) (Refused s) e = ap Refused (refusal_one r s e)
+pub said_one : (a b : Result ArcCount Refusal) → said_of a ≡ said_of b → a ≡ b
+said_one (Ok c) (Ok d) e = ap (λ (n : ℕ). Ok (record { 0 = n })) (ap (λ (x : Said). get_or x.values 0 0) e)
+said_one (Ok c) (Err r) e = absurd (refusal_no_answer r (c.0 ∷ []) (sym e))
+said_one (Err r) (Ok c) e = absurd (refusal_no_answer r (c.0 ∷ []) e)
+said_one (Err r) (Err s) e = ap Err (refusal_one r s e)
 
 module _ (starts heads weights chosen : List ℕ) (before : Areas) where
   all_singles : Singles (faults_of starts heads weights chosen before)
@@ -152,7 +152,7 @@ module _ {starts heads weights chosen : List ℕ} {before : Areas} where
 
   -- and so are two answers
   pub answer_one :
-      (a b : OverlayAnswer) {after after' : Areas} → Outcome starts heads weights chosen before (said_of a) after → Outcome starts heads weights chosen before (said_of b) after' →
+      (a b : Result ArcCount Refusal) {after after' : Areas} → Outcome starts heads weights chosen before (said_of a) after → Outcome starts heads weights chosen before (said_of b) after' →
       (a ≡ b) × (after ≡ after')
   answer_one a b o p = let e = outcome_one o p in (said_one a b e.0, e.1)
 

@@ -7,18 +7,23 @@ use native.Mathlib.Omega.{arith}
 use lib.ListN.{length, get_or}
 use Rattle.road.specs.declared.Refusal.{Refusal}
 use Rattle.road.specs.declared.Refusal.TheVariants.{Overlay}
-use Rattle.road.specs.declared.Verdict.{Verdict}
-use Rattle.road.specs.declared.Verdict.TheVariants.{Passed, Refused}
+use Rattle.std.specs.Prelude.{Ok, Err}
+use Rattle.std.specs.declared.ops.Range.{Range}
+use Rattle.road.specs.workings.Scans.{RowOf}
 use Rattle.road.specs.Faults.{InSet, graph_faults}
 use Rattle.road.specs.Limits.{overlay_limits}
-use Rattle.road.specs.workings.Verdicts.{Judged, Judges}
+use Rattle.road.specs.workings.Verdicts.{Verdict, Judges}
 use Rattle.road.specs.Roads.{Owns}
 use Rattle.road.specs.workings.Sound.{Sound}
 use Rattle.road.proofs.Faults.{sound_of}
 use Rattle.road.proofs.Refusals.{first_not_none, not_both, refuses}
 use Rattle.road.proofs.Rows.{owner_node, owned_listed, owner_of}
-use Rattle.overlay.specs.Lent.{BadOverlay, overlay_fault}
+use Rattle.overlay.specs.Lent.{BadOverlay}
 use Rattle.overlay.specs.workings.Ends.{RowEnds, RowEndsTo, EndsBelow, JudgesRow}
+
+-- a place within the row that the code goes over is one of the tail's
+pub owned_at : {starts : List ℕ} {u : ℕ} (r : Range ℕ) (p : ℕ) → RowOf starts u r → r.start ≤ p → p < r.end → Owns starts u p
+owned_at r p w h g = record { from = omega (arith, w.start); below = omega (arith, w.end) }
 
 module _ (chosen starts heads : List ℕ) (u : ℕ) where
   pub ends_none : (p : ℕ) → p ≡ get_or starts u 0 → RowEndsTo chosen starts heads u p
@@ -45,18 +50,15 @@ module _ (chosen starts heads : List ℕ) where
       by v h (yes e) = subst (λ (k : ℕ). RowEnds chosen starts heads k) (sym e) r
       by v h (no n) = g.rows v (omega arith)
 
-pub graph_sound : (starts heads weights : List ℕ) (v : Verdict) → Judges (graph_faults overlay_limits starts heads weights) v → v ≡ Passed → Sound overlay_limits starts heads weights
+pub graph_sound : (starts heads weights : List ℕ) (v : Verdict) → Judges (graph_faults overlay_limits starts heads weights) v → v ≡ Ok tt → Sound overlay_limits starts heads weights
 graph_sound starts heads weights v j e = sound_of overlay_limits starts heads weights (j.passed e)
 
 module _ (chosen starts heads weights : List ℕ) where
-  pub row_passes : (u : ℕ) → RowEnds chosen starts heads u → JudgesRow chosen starts heads weights u Passed
+  pub row_passes : (u : ℕ) → RowEnds chosen starts heads u → JudgesRow chosen starts heads weights u (Ok tt)
   row_passes u g = record { passed = λ e. g; refused = λ r e. absurd (not_both refl e) }
 
-  pub row_refused : (u : ℕ) → BadOverlay chosen starts heads weights → JudgesRow chosen starts heads weights u (Refused Overlay)
+  pub row_refused : (u : ℕ) → BadOverlay chosen starts heads weights → JudgesRow chosen starts heads weights u (Err Overlay)
   row_refused u b = record { passed = λ e. absurd (not_both e refl); refused = λ r e. (refuses b).refused r e }
-
-  pub refused_by : (u : ℕ) (v : Verdict) → JudgesRow chosen starts heads weights u v → (r : Refusal) → v ≡ Refused r → Judged (overlay_fault chosen starts heads weights) v
-  refused_by u v j r e = record { passed = λ p. absurd (not_both p e); refused = j.refused }
 
   module _ (s : Sound overlay_limits starts heads weights) (u p : ℕ) (o : Owns starts u p) where
     pub tail_outside : (InSet chosen u → ⊥) → BadOverlay chosen starts heads weights
@@ -66,10 +68,10 @@ module _ (chosen starts heads weights : List ℕ) where
     head_outside n = BadOverlay.head p (owned_listed starts heads s.rising u p o) n
 
   module _ (v : Verdict) (j : Judges (graph_faults overlay_limits starts heads weights) v) where
-    pub graph_faulty : (r : Refusal) → v ≡ Refused r → BadOverlay chosen starts heads weights
+    pub graph_faulty : (r : Refusal) → v ≡ Err r → BadOverlay chosen starts heads weights
     graph_faulty r e = BadOverlay.faulty r (j.refused r e)
 
-    pub all_in : v ≡ Passed → (u : ℕ) → length starts ≡ length chosen + 1 → length chosen ≤ u → EndsBelow chosen starts heads u → BadOverlay chosen starts heads weights → ⊥
+    pub all_in : v ≡ Ok tt → (u : ℕ) → length starts ≡ length chosen + 1 → length chosen ≤ u → EndsBelow chosen starts heads u → BadOverlay chosen starts heads weights → ⊥
     all_in e u l h g (BadOverlay.unlike n) = n l
     all_in e u l h g (BadOverlay.faulty r f) = first_not_none (graph_faults overlay_limits starts heads weights) r f (j.passed e)
     all_in e u l h g (BadOverlay.tail x p k o n) = n ((g.rows x (omega (arith, owner_node starts x p o))).tails p o)

@@ -12,9 +12,8 @@ use Rattle.paths.specs.Lists.{Inside}
 use Rattle.road.specs.declared.Refusal.TheVariants.{Room}
 use Rattle.road.specs.Faults.{InSet}
 use Rattle.road.specs.Limits.{overlay_limits}
-use Rattle.road.specs.declared.Verdict.{Verdict}
-use Rattle.road.specs.declared.Verdict.TheVariants.{Passed}
-use Rattle.road.specs.workings.Verdicts.{Judged}
+use Rattle.std.specs.Prelude.{Ok}
+use Rattle.road.specs.workings.Verdicts.{Verdict, Judged}
 use Rattle.overlay.specs.Lent.{BadOverlay, overlay_fault}
 use Rattle.road.specs.Refusals.{None, Said, refusal, answer}
 use Rattle.road.specs.Roads.{nodes_of, Owns, Arc, road}
@@ -247,5 +246,5 @@ module _ where
       by a = a.values ∙ ap (λ (c : ℕ). answer (c ∷ [])) (no_arcs alone a.counted)
 
 -- Check 7 takes one start too few, or too many: the verdict on it is not passed.
-pub one_start_off : {chosen starts heads weights : List ℕ} {v : Verdict} → Judged (overlay_fault chosen starts heads weights) v → length starts ≢ length chosen + 1 → v ≢ Passed
+pub one_start_off : {chosen starts heads weights : List ℕ} {v : Verdict} → Judged (overlay_fault chosen starts heads weights) v → length starts ≢ length chosen + 1 → v ≢ Ok tt
 one_start_off j n e = unheld (j.passed e) (BadOverlay.unlike n)

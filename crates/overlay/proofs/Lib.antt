@@ -3,6 +3,7 @@ pub mod Numbers
 pub mod Locals
 pub mod Written
 pub mod Parts
+pub mod Stays
 pub mod Rooms
 pub mod Ends
 pub mod Outcomes

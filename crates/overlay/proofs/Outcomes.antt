@@ -11,19 +11,20 @@ use Rattle.paths.specs.Graphs.{arcs_of}
 use Rattle.paths.proofs.Weights.{path_light}
 use Rattle.road.specs.declared.Refusal.{Refusal}
 use Rattle.road.specs.declared.Refusal.TheVariants.{Room}
-use Rattle.road.specs.declared.Verdict.{Verdict}
-use Rattle.road.specs.declared.Verdict.TheVariants.{Passed, Refused}
+use Rattle.road.specs.declared.ArcCount.{ArcCount}
+use Rattle.std.specs.Prelude.{Result, Ok, Err}
+use Rattle.std.specs.Result.{IsErrAnd}
 use Rattle.road.specs.Chains.{road_and_set_faults}
 use Rattle.road.specs.Faults.{lengths_fault}
 use Rattle.road.specs.Limits.{road_limits, overlay_limits}
-use Rattle.road.specs.workings.Verdicts.{Judged, Judges}
-use Rattle.road.specs.Refusals.{refusal, answer}
+use Rattle.road.specs.workings.Verdicts.{Verdict, Judged, Judges}
+use Rattle.road.specs.Refusals.{First, refusal, answer}
 use Rattle.road.specs.Roads.{nodes_of, road}
 use Rattle.road.specs.workings.Sound.{Sound}
 use Rattle.road.proofs.Faults.{sound_wider, road_proper, road_lighter, long_at, not_over}
 use Rattle.road.proofs.Left.{road_and_set_left}
 use Rattle.road.proofs.Refusals.{judged_alone, stops, goes_on, unheld}
-use Rattle.overlay.specs.Calls.{Areas, Outcome, refused, full, built, TooMany, answered, cleared, asked_lengths, faults_of}
+use Rattle.overlay.specs.Calls.{said_of, Areas, Outcome, refused, full, built, TooMany, answered, cleared, asked_lengths, faults_of}
 use Rattle.overlay.specs.workings.Ready.{Ready}
 use Rattle.overlay.specs.Overlays.{OverlayArc, ArcsInAll}
 use Rattle.overlay.specs.workings.Writing.{Searching, Light, Enough, Building}
@@ -33,6 +34,13 @@ use Rattle.overlay.proofs.Rooms.{overlay_of}
 -- filled with zeros, over a length that is known
 pub zeros_of : (l : List ℕ) (n m : ℕ) → l ≡ replicate n 0 → n ≡ m → l ≡ replicate m 0
 zeros_of l n m e f = e ∙ ap (λ (x : ℕ). replicate x 0) f
+
+-- what is left behind is what was left before it
+pub left_so : {l m k : List ℕ} → m ≡ k → l ≡ m → l ≡ k
+left_so e f = f ∙ e
+
+pub long_zeros : {l : List ℕ} {n : ℕ} → l ≡ replicate n 0 → length l ≡ n
+long_zeros {n = n} e = ap length e ∙ length-replicate {A = ℕ} n 0
 
 -- a list whose entries from place c on are another's is its front and the other's rest
 pub front_and_rest :
@@ -158,23 +166,28 @@ module _ (starts heads weights chosen : List ℕ) where
                   touched = sym touched_zero i;
                 }
 
-  pub few_nodes : (v : Verdict) → Judges (road_and_set_faults starts heads weights chosen) v → v ≡ Passed → nodes_of starts ≤ 4096
-  few_nodes v j p = omega (arith, (road_and_set_left starts heads weights chosen (j.passed p)).sound.sized.most)
-
 -- From the checks to the outcome.
 module _ (starts heads weights chosen : List ℕ) (a : Areas) where
-  pub refused_early : (v : Verdict) (r : Refusal) → Judges (road_and_set_faults starts heads weights chosen) v → v ≡ Refused r → Outcome starts heads weights chosen a (refusal r) a
-  refused_early v r j e = refused ((stops (road_and_set_faults starts heads weights chosen) (lengths_fault (asked_lengths (nodes_of starts) a) ∷ []) e j).refused r e)
+  -- what `?` hands on is the refusal of the check
+  handed : (w : Result ArcCount Refusal) {r : Refusal} → IsErrAnd w (λ s. s ≡ r) → First (faults_of starts heads weights chosen a) r → Outcome starts heads weights chosen a (said_of w) a
+  handed (Ok x) h f = elim h [ ]
+  handed (Err s) h f = refused (subst (First (faults_of starts heads weights chosen a)) (sym h) f)
 
-  module _ (u : Verdict) (j : Judges (road_and_set_faults starts heads weights chosen) u) (p : u ≡ Passed) where
+  pub refused_early :
+      {v : Verdict} (w : Result ArcCount Refusal) {r : Refusal} → Judges (road_and_set_faults starts heads weights chosen) v → v ≡ Err r → IsErrAnd w (λ s. s ≡ r) →
+      Outcome starts heads weights chosen a (said_of w) a
+  refused_early w {r = r} j e h =
+      handed w h ((stops (road_and_set_faults starts heads weights chosen) (lengths_fault (asked_lengths (nodes_of starts) a) ∷ []) e j).refused r e)
+
+  module _ (u : Verdict) (j : Judges (road_and_set_faults starts heads weights chosen) u) (p : u ≡ Ok tt) where
     module _ (v : Verdict) (l : Judged (lengths_fault (asked_lengths (nodes_of starts) a)) v) where
       all_judged : Judges (faults_of starts heads weights chosen a) v
       all_judged = goes_on (road_and_set_faults starts heads weights chosen) (lengths_fault (asked_lengths (nodes_of starts) a) ∷ []) p j (judged_alone l)
 
-      pub refused_late : (r : Refusal) → v ≡ Refused r → Outcome starts heads weights chosen a (refusal r) a
-      refused_late r e = refused (all_judged.refused r e)
+      pub refused_late : (w : Result ArcCount Refusal) {r : Refusal} → v ≡ Err r → IsErrAnd w (λ s. s ≡ r) → Outcome starts heads weights chosen a (said_of w) a
+      refused_late w {r = r} e h = handed w h (all_judged.refused r e)
 
-      pub ready : v ≡ Passed → Ready starts heads weights chosen a
+      pub ready : v ≡ Ok tt → Ready starts heads weights chosen a
       ready q =
           let x = road_and_set_left starts heads weights chosen (j.passed p) in
           let y = long_at (asked_lengths (nodes_of starts) a) (unheld (l.passed q)) in

@@ -1,6 +1,8 @@
 -- The overlay call: what it is lent, what it says, and what it leaves.
-use Rattle.std.specs.Prelude.{◌⊎◌, List, [], ◌∷◌, ◌++◌, ℕ, ◌+◌, ◌*◌, ◌<◌, length, replicate, drop}
+use Rattle.std.specs.Prelude.{◌≡◌, ◌⊎◌, Result, Ok, Err, List, [], ◌∷◌, ◌++◌, ℕ, ◌+◌, ◌*◌, ◌<◌, length, replicate, drop}
 use Rattle.paths.specs.Graphs.{Graph}
+use Rattle.road.specs.declared.ArcCount.{ArcCount}
+use Rattle.road.specs.declared.GraphMut.{GraphMut}
 use Rattle.road.specs.declared.Refusal.{Refusal}
 use Rattle.road.specs.declared.Refusal.TheVariants.{Room}
 use Rattle.road.specs.Chains.{road_and_set_faults}
@@ -8,14 +10,13 @@ use Rattle.road.specs.Faults.{lengths_fault}
 use Rattle.road.specs.Limits.{overlay_limits}
 use Rattle.road.specs.Refusals.{Fault, Of, First, None, Said, refusal, answer}
 use Rattle.road.specs.Roads.{nodes_of, road}
-use Rattle.overlay.specs.declared.OverlayAnswer.{OverlayAnswer}
-use Rattle.overlay.specs.declared.OverlayAnswer.TheVariants.{Built, Refused}
+use Rattle.overlay.specs.declared.Work.{Work}
 use Rattle.overlay.specs.Overlays.{OverlayOf, ArcsInAll}
 
 -- the number and the values of each answer: the count of the overlay's arcs, or a refusal's number alone
-abbrev pub said_of : OverlayAnswer → Said
-said_of (Built m) = answer (m.0 ∷ [])
-said_of (Refused r) = refusal r
+abbrev pub said_of : Result ArcCount Refusal → Said
+said_of (Ok m) = answer (m.0 ∷ [])
+said_of (Err r) = refusal r
 
 -- the slices that the call may write: the overlay's starts and its two rooms, and four of work
 pub record Areas : Type 0 where
@@ -31,6 +32,18 @@ pub record Areas : Type 0 where
 abbrev pub areas : List ℕ → List ℕ → List ℕ → List ℕ → List ℕ → List ℕ → List ℕ → Areas
 areas starts heads weights labels heap places touched =
     record { starts = starts; heads = heads; weights = weights; labels = labels; heap = heap; places = places; touched = touched }
+
+-- and from the structs that hold them
+abbrev pub gathered : GraphMut → Work → Areas
+gathered rooms work =
+    areas rooms.starts.now rooms.heads.now rooms.weights.now work.labels.now work.heap.now work.places.now work.touched.now
+
+-- the four slices of work are the same slices, whatever they hold
+pub record SameWork (old new : Work) : Type 0 where
+  pub labels : new.labels.ghost_name ≡ old.labels.ghost_name
+  pub heap : new.heap.ghost_name ≡ old.heap.ghost_name
+  pub places : new.places.ghost_name ≡ old.places.ghost_name
+  pub touched : new.touched.ghost_name ≡ old.touched.ghost_name
 
 -- their lengths, each with the length asked; the two rooms are of equal length
 abbrev pub asked_lengths : ℕ → Areas → List (ℕ × ℕ)

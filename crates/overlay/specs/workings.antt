@@ -2,3 +2,4 @@
 pub mod Ends
 pub mod Writing
 pub mod Ready
+pub mod Lending

@@ -6,47 +6,40 @@ ghost use Rattle.road.specs.workings.Sound.{Sound};
 ghost use Rattle.overlay.specs.workings.Ends.{JudgesRow};
 ghost use Rattle.overlay.specs.Lent.{overlay_fault};
 
-use road::{Refusal, Verdict, check_graph, overlay_limits, row, wide};
+use road::{Graph, Refusal, check_graph, overlay_limits};
 
 // The arcs of one tail end in the set, at both ends.
-fn check_row(set: &[u8], starts: &[u32], heads: &[u32], weights: &[u32], tail: usize) -> Verdict
-    requires sound { Sound overlay_limits starts.now heads.now weights.now }
-    requires starts_len { length starts.now ≡ length set.now + 1 }
+fn check_row(set: &[u8], overlay: &Graph, tail: usize) -> Result<(), Refusal>
+    requires sound { Sound overlay_limits overlay.now.starts.now overlay.now.heads.now overlay.now.weights.now }
+    requires starts_len { length overlay.now.starts.now ≡ length set.now + 1 }
     requires tail_in_bounds { tail < length set.now }
-    ensures { JudgesRow set.now starts.now heads.now weights.now tail result }
+    ensures { JudgesRow set.now overlay.now.starts.now overlay.now.heads.now overlay.now.weights.now tail result }
 {
-    let arcs = row(starts, tail);
-    let end = arcs.end;
-    let mut p = arcs.first;
-    while p < end {
+    let heads = overlay.heads;
+    let row = overlay.row(tail);
+    for p in row.start..row.end {
         if set[tail] != 1 {
-            return Verdict::Refused(Refusal::Overlay);
+            return Err(Refusal::Overlay);
         }
-        if set[wide(heads[p])] != 1 {
-            return Verdict::Refused(Refusal::Overlay);
+        if set[heads[p] as usize] != 1 {
+            return Err(Refusal::Overlay);
         }
-        p += 1;
     }
-    Verdict::Passed
+    Ok(())
 }
 
 // Check 7, n being the set's length.
-pub fn check_overlay(set: &[u8], starts: &[u32], heads: &[u32], weights: &[u32]) -> Verdict
-    ensures { Judged (overlay_fault set.now starts.now heads.now weights.now) result }
+pub fn check_overlay(set: &[u8], overlay: &Graph) -> Result<(), Refusal>
+    ensures { Judged (overlay_fault set.now overlay.now.starts.now overlay.now.heads.now overlay.now.weights.now) result }
 {
-    let Verdict::Passed = check_graph(starts, heads, weights, overlay_limits()) else {
-        return Verdict::Refused(Refusal::Overlay);
+    let Ok(()) = check_graph(overlay, overlay_limits()) else {
+        return Err(Refusal::Overlay);
     };
-    if starts.len() - 1 != set.len() {
-        return Verdict::Refused(Refusal::Overlay);
+    if overlay.node_count().0 != set.len() {
+        return Err(Refusal::Overlay);
     }
-    let mut tail = 0;
-    while tail < set.len() {
-        let row = check_row(set, starts, heads, weights, tail);
-        let Verdict::Passed = row else {
-            return row;
-        };
-        tail += 1;
+    for tail in 0..set.len() {
+        check_row(set, overlay, tail)?;
     }
-    Verdict::Passed
+    Ok(())
 }

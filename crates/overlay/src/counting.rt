@@ -1,60 +1,45 @@
 // How many arcs the overlay has. Nothing is written but the search's work.
 ghost use Rattle.std.specs.Prelude.{◌≡◌, ◌+◌, ◌<◌};
-ghost use Rattle.road.specs.Roads.{nodes_of, road};
+ghost use Rattle.road.specs.Roads.{nodes_of};
 ghost use Rattle.overlay.specs.Overlays.{Arcs, ArcsInAll};
-ghost use Rattle.overlay.specs.workings.Writing.{Searching};
+ghost use Rattle.overlay.specs.workings.Lending.{QueueStays, road_of, SearchingOf};
 
 use crate::rows::count_row;
-use road::ArcCount;
-use search::search;
+use road::{ArcCount, Graph};
+use search::{Queue, search};
 
 // Adds the arcs of one tail.
 fn count_tail(
-    starts: &[u32],
-    heads: &[u32],
-    weights: &[u32],
+    graph: &Graph,
     set: &[u8],
     labels: &mut [u64],
-    heap: &mut [u32],
-    places: &mut [u32],
+    queue: &mut Queue,
     tail: usize,
     count: ArcCount,
 ) -> ArcCount
-    requires searching { Searching starts.now heads.now weights.now set.now labels.old heap.old places.old }
-    requires tail_bound { tail < nodes_of starts.now }
-    requires arcs { Arcs (road starts.now heads.now weights.now) set.now tail count.0 }
-    ensures arcs_2 { Arcs (road starts.now heads.now weights.now) set.now (tail + 1) result.0 }
-    ensures heap_value { (heap.new ≡ heap.old) × (places.new ≡ places.old) }
+    requires searching { SearchingOf graph.now set.now labels.old queue.old }
+    requires tail_bound { tail < nodes_of graph.now.starts.now }
+    requires arcs { Arcs (road_of graph.now) set.now tail count.0 }
+    ensures arcs_2 { Arcs (road_of graph.now) set.now (tail + 1) result.0 }
+    ensures queue { QueueStays queue.old queue.new }
 {
     if set[tail] == 0 {
         return count;
     }
-    search(starts, heads, weights, set, tail, labels, heap, places);
+    search(graph, set, tail, labels, queue);
     let row = count_row(set, labels, tail);
     ArcCount(count.0 + row.0)
 }
 
 // Adds up the arcs of all tails.
-pub fn count_arcs(
-    starts: &[u32],
-    heads: &[u32],
-    weights: &[u32],
-    set: &[u8],
-    labels: &mut [u64],
-    heap: &mut [u32],
-    places: &mut [u32],
-) -> ArcCount
-    requires { Searching starts.now heads.now weights.now set.now labels.old heap.old places.old }
-    ensures arcs_in_all { ArcsInAll (road starts.now heads.now weights.now) set.now result.0 }
-    ensures heap_value { (heap.new ≡ heap.old) × (places.new ≡ places.old) }
+pub fn count_arcs(graph: &Graph, set: &[u8], labels: &mut [u64], queue: &mut Queue) -> ArcCount
+    requires { SearchingOf graph.now set.now labels.old queue.old }
+    ensures arcs_in_all { ArcsInAll (road_of graph.now) set.now result.0 }
+    ensures queue { QueueStays queue.old queue.new }
 {
     let mut count = ArcCount(0);
-    let mut tail = 0;
-    while tail < set.len() {
-        count = count_tail(
-            starts, heads, weights, set, labels, heap, places, tail, count,
-        );
-        tail += 1;
+    for tail in 0..set.len() {
+        count = count_tail(graph, set, labels, queue, tail, count);
     }
     count
 }

@@ -9,11 +9,12 @@ mod writing;
 
 pub use calls::overlay;
 pub use checking::check_overlay;
-use road::{ArcCount, Refusal};
 
-// What the overlay call says. `said_of` in specs/ gives each its number and values.
-#[derive(Clone, Copy)]
-pub enum OverlayAnswer {
-    Built(ArcCount),
-    Refused(Refusal),
+// The work that the overlay call is lent: labels, the queue's two slices, and touched.
+#[derive(Drop)]
+pub struct Work<'a> {
+    pub labels: &'a mut [u64],
+    pub heap: &'a mut [u32],
+    pub places: &'a mut [u32],
+    pub touched: &'a mut [u32],
 }

@@ -12,16 +12,7 @@ fn is_head(set: &[u8], labels: &[u64], tail: usize, v: usize) -> bool
     requires labels_len { length labels.now ≡ length set.now }
     ensures { Tells result (Found set.now labels.now tail v) }
 {
-    if set[v] != 1 {
-        return false;
-    }
-    if v == tail {
-        return false;
-    }
-    if labels[v] == 0 {
-        return false;
-    }
-    true
+    set[v] == 1 && v != tail && labels[v] != 0
 }
 
 // How many arcs the row has.
@@ -30,12 +21,10 @@ pub fn count_row(set: &[u8], labels: &[u64], tail: usize) -> ArcCount
     ensures { Number (Found set.now labels.now tail) (length set.now) result.0 }
 {
     let mut count = 0;
-    let mut v = 0;
-    while v < set.len() {
+    for v in 0..set.len() {
         if is_head(set, labels, tail, v) {
             count += 1;
         }
-        v += 1;
     }
     ArcCount(count)
 }
@@ -79,10 +68,8 @@ pub fn write_row(
     ensures { Wrote set.now labels.now tail (length set.now) heads.old weights.old heads.new weights.new result.0 }
 {
     let mut count = ArcCount(0);
-    let mut v = 0;
-    while v < set.len() {
+    for v in 0..set.len() {
         count = write_arc(set, labels, tail, v, heads, weights, count);
-        v += 1;
     }
     count
 }

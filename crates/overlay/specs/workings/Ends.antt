@@ -1,8 +1,7 @@
 -- Check 7 on its way through the rows.
-use Rattle.std.specs.Prelude.{◌≡◌, List, ℕ, ◌<◌, get_or}
+use Rattle.std.specs.Prelude.{◌≡◌, Ok, Err, List, ℕ, ◌<◌, get_or}
 use Rattle.road.specs.declared.Refusal.{Refusal}
-use Rattle.road.specs.declared.Verdict.{Verdict}
-use Rattle.road.specs.declared.Verdict.TheVariants.{Passed, Refused}
+use Rattle.road.specs.workings.Verdicts.{Verdict}
 use Rattle.road.specs.Faults.{InSet}
 use Rattle.road.specs.Roads.{Owns}
 use Rattle.overlay.specs.Lent.{overlay_fault}
@@ -23,5 +22,5 @@ pub record EndsBelow (chosen starts heads : List ℕ) (u : ℕ) : Type 0 where
 
 -- a verdict on the row of tail u
 pub record JudgesRow (chosen starts heads weights : List ℕ) (u : ℕ) (v : Verdict) : Type 0 where
-  pub passed : v ≡ Passed → RowEnds chosen starts heads u
-  pub refused : (r : Refusal) → v ≡ Refused r → overlay_fault chosen starts heads weights r
+  pub passed : v ≡ Ok tt → RowEnds chosen starts heads u
+  pub refused : (r : Refusal) → v ≡ Err r → overlay_fault chosen starts heads weights r

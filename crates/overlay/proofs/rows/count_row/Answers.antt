@@ -5,13 +5,13 @@ use Rattle.overlay.proofs.rows.count_row.Goals.{then-is_head, else-is_head}
 use Rattle.overlay.proofs.rows.count_row.Goals as goal
 
 pub loop-v-init : goal.loop-v-init
-loop-v-init c = (Number.none, omega arith)
+loop-v-init c = Number.none
 
 pub overflow_add-count : goal.overflow_add-count
-overflow_add-count c = omega (arith, number_few c.loop-v.invariant.0)
+overflow_add-count c = omega (arith, number_few c.loop-v.invariant)
 
 pub loop-v-preserved : goal.loop-v-preserved
 loop-v-preserved c = elim c.if-is_head.branch [
-  | then-is_head w ↦ (number_more _ _ _ (omega (arith, w.count-is)) (c.is_head.ensures.yes w.if-is_head.true) c.loop-v.invariant.0, omega arith)
-  | else-is_head w ↦ (number_past _ _ _ (omega (arith, w.count-is)) (c.is_head.ensures.no w.if-is_head.false) c.loop-v.invariant.0, omega arith)
+  | then-is_head w ↦ number_more _ _ _ (omega (arith, w.count-is)) (c.is_head.ensures.yes w.if-is_head.true) c.loop-v.invariant
+  | else-is_head w ↦ number_past _ _ _ (omega (arith, w.count-is)) (c.is_head.ensures.no w.if-is_head.false) c.loop-v.invariant
 ]

@@ -5,10 +5,21 @@ use borrow.Author.Rules.{rules}
 use Rattle.overlay.proofs.rows.write_row.Goals as goal
 
 pub loop-v-init : goal.loop-v-init
-loop-v-init c = (wrote_none _ _ _ _ _, omega arith)
+loop-v-init c = wrote_none _ _ _ _ _
 
 pub write_arc-count-requires : goal.write_arc-count-requires
-write_arc-count-requires c = record { node = search rules; few = c.requires.set_len_bound; labelled = c.requires.labels_len; fits = c.requires.fits; free = λ f. omega (arith, room_left _ _ _ _ _ _ c.requires.row_room c.loop-v-test.true c.loop-v.invariant.0.number f, c.loop-v.invariant.0.heads_long); alike = omega (arith, c.loop-v.invariant.0.heads_long, c.loop-v.invariant.0.weights_long, c.requires.weights_len) }
+write_arc-count-requires c =
+    record {
+      node = search rules;
+      few = c.requires.set_len_bound;
+      labelled = c.requires.labels_len;
+      fits = c.requires.fits;
+      free = λ f. omega (arith, room_left _ _ _ _ _ _ c.requires.row_room c.loop-v-test.true c.loop-v.invariant.number f, c.loop-v.invariant.heads_long);
+      alike = omega (arith, c.loop-v.invariant.heads_long, c.loop-v.invariant.weights_long, c.requires.weights_len);
+    }
 
 pub loop-v-preserved : goal.loop-v-preserved
-loop-v-preserved c = (wrote_more _ _ _ _ _ _ _ _ _ c.loop-v.invariant.0 _ _ _ c.write_arc-count.ensures (λ f. omega (arith, room_left _ _ _ _ _ _ c.requires.row_room c.loop-v-test.true c.loop-v.invariant.0.number f, c.loop-v.invariant.0.heads_long)) (omega (arith, c.loop-v.invariant.0.heads_long, c.loop-v.invariant.0.weights_long, c.requires.weights_len)), omega arith)
+loop-v-preserved c =
+    wrote_more _ _ _ _ _ _ _ _ _ c.loop-v.invariant _ _ _ c.write_arc-count.ensures
+    (λ f. omega (arith, room_left _ _ _ _ _ _ c.requires.row_room c.loop-v-test.true c.loop-v.invariant.number f, c.loop-v.invariant.heads_long))
+    (omega (arith, c.loop-v.invariant.heads_long, c.loop-v.invariant.weights_long, c.requires.weights_len))

@@ -1,10 +1,5 @@
-use Prim.Native.Nat.{◌-◌, ◌≤◌}
-use lib.ListN.{length}
 use Rattle.overlay.specs.workings.Writing.{Wrote}
 use Rattle.overlay.proofs.rows.write_row.Given as goal
 
 abbrev pub invariant-loop-v : goal.invariant-loop-v
-invariant-loop-v l = Wrote l.set l.labels l.tail l.v l.initial.heads l.initial.weights l.heads l.weights l.count.0 × (l.v ≤ length l.set)
-
-abbrev pub decreases-loop-v : goal.decreases-loop-v
-decreases-loop-v l = length l.set - l.v
+invariant-loop-v l = Wrote l.set l.labels l.tail l.v l.initial.heads l.initial.weights l.heads l.weights l.count.0

@@ -1,12 +1,11 @@
-use Prim.Native.Nat.{◌-◌, ◌≤◌}
-use Rattle.road.specs.Roads.{road}
-use Rattle.overlay.specs.workings.Writing.{Building}
-use lib.ListN.{length}
 use mathlib.Core.Path.{◌≡◌}
+use lib.ListN.{length}
+use Rattle.road.specs.Lent.{SameSlices}
+use Rattle.overlay.specs.workings.Lending.{QueueStays, road_of}
+use Rattle.overlay.specs.workings.Writing.{Building}
 use Rattle.overlay.proofs.writing.write_arcs.Given as goal
 
 abbrev pub invariant-loop-tail : goal.invariant-loop-tail
-invariant-loop-tail l = Building (road l.starts l.heads l.weights) l.set l.tail l.initial.over_heads l.initial.over_weights l.over_starts l.over_heads l.over_weights l.count.0 × (l.tail ≤ length l.set) × (length l.labels ≡ length l.initial.labels) × (l.heap ≡ l.initial.heap) × (l.places ≡ l.initial.places)
-
-abbrev pub decreases-loop-tail : goal.decreases-loop-tail
-decreases-loop-tail l = length l.set - l.tail
+invariant-loop-tail l =
+    Building (road_of l.graph) l.set l.tail l.fn.rooms.heads.now l.fn.rooms.weights.now l.rooms.starts.now l.rooms.heads.now l.rooms.weights.now l.count.0 ×
+    SameSlices l.fn.rooms l.rooms × (length l.labels ≡ length l.fn.labels) × QueueStays l.fn.queue l.queue
