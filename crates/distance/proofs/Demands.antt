@@ -24,8 +24,7 @@ use Rattle.overlay.specs.Lent.{overlay_fault}
 use Rattle.overlay.proofs.Demands.{Answer, overlay_passes}
 use Rattle.overlay.proofs.Locals.{in_bytes, arcs_one}
 use Rattle.overlay.proofs.Unique.{as_nodes, written_arc, pair_written, written_count}
-use Rattle.distance.specs.declared.DistanceAnswer.{DistanceAnswer}
-use Rattle.distance.specs.declared.DistanceAnswer.TheVariants.{Way, NoWay, Refused}
+use Rattle.std.specs.Prelude.{Option, Some, Result, Ok, Err}
 use Rattle.distance.specs.Calls.{said_of, Answers, way, no_way, HandAreas, HandOutcome, hand_input, hand_faults, hand_lengths, PairAreas, PairOutcome, pair_input, pair_faults, pair_lengths}
 use Rattle.overlay.proofs.Crossing.{Over, over_road, road_over}
 use Rattle.distance.proofs.Passing.{pair_road, road_pair}
@@ -48,16 +47,16 @@ zero_said p (way {d = d} l) = ap (λ (k : ℕ). answer (1 ∷ k ∷ [])) {y = 0}
 zero_said p (no_way e) = absurd (e.none 0 p)
 
 -- what is said loses nothing of the answer
-pub said_one : (a b : DistanceAnswer) → said_of a ≡ said_of b → a ≡ b
-said_one (Way d) (Way e) q = ap Way (ap (λ (x : Said). get_or x.values 1 0) q)
-said_one (Way d) NoWay q = absurd (omega (arith, ap (λ (x : Said). get_or x.values 0 0) q))
-said_one (Way d) (Refused r) q = absurd (refusal_no_answer r (1 ∷ d ∷ []) (sym q))
-said_one NoWay (Way e) q = absurd (omega (arith, ap (λ (x : Said). get_or x.values 0 0) q))
-said_one NoWay NoWay q = refl
-said_one NoWay (Refused r) q = absurd (refusal_no_answer r (0 ∷ []) (sym q))
-said_one (Refused r) (Way e) q = absurd (refusal_no_answer r (1 ∷ e ∷ []) q)
-said_one (Refused r) NoWay q = absurd (refusal_no_answer r (0 ∷ []) q)
-said_one (Refused r) (Refused s) q = ap Refused (refusal_one r s q)
+pub said_one : (a b : Result (Option ℕ) Refusal) → said_of a ≡ said_of b → a ≡ b
+said_one (Ok (Some d)) (Ok (Some e)) q = ap (λ (x : ℕ). Ok (Some x)) (ap (λ (x : Said). get_or x.values 1 0) q)
+said_one (Ok (Some d)) (Ok Option.None) q = absurd (omega (arith, ap (λ (x : Said). get_or x.values 0 0) q))
+said_one (Ok (Some d)) (Err r) q = absurd (refusal_no_answer r (1 ∷ d ∷ []) (sym q))
+said_one (Ok Option.None) (Ok (Some e)) q = absurd (omega (arith, ap (λ (x : Said). get_or x.values 0 0) q))
+said_one (Ok Option.None) (Ok Option.None) q = refl
+said_one (Ok Option.None) (Err r) q = absurd (refusal_no_answer r (0 ∷ []) (sym q))
+said_one (Err r) (Ok (Some e)) q = absurd (refusal_no_answer r (1 ∷ e ∷ []) q)
+said_one (Err r) (Ok Option.None) q = absurd (refusal_no_answer r (0 ∷ []) q)
+said_one (Err r) (Err s) q = ap Err (refusal_one r s q)
 
 -- Two outcomes that the contracts allow are equal.
 module _ (chosen starts heads weights : List ℕ) (s t : ℕ) (before : HandAreas) where
@@ -81,7 +80,7 @@ module _ {chosen starts heads weights : List ℕ} {s t : ℕ} {before : HandArea
 
   -- and so are two answers
   pub hand_answer_one :
-      (a b : DistanceAnswer) {after after' : HandAreas} → HandOutcome chosen starts heads weights s t before (said_of a) after →
+      (a b : Result (Option ℕ) Refusal) {after after' : HandAreas} → HandOutcome chosen starts heads weights s t before (said_of a) after →
       HandOutcome chosen starts heads weights s t before (said_of b) after' → (a ≡ b) × (after ≡ after')
   hand_answer_one a b o p = let e = hand_one o p in (said_one a b e.0, e.1)
 
@@ -115,7 +114,7 @@ module _ {starts heads weights chosen starts' heads' weights' : List ℕ} {s t :
   pair_one (PairOutcome.answered n x) (PairOutcome.answered m y) = (answers_one x y, refl)
 
   pub pair_answer_one :
-      (a b : DistanceAnswer) {after after' : PairAreas} → PairOutcome starts heads weights chosen starts' heads' weights' s t before (said_of a) after →
+      (a b : Result (Option ℕ) Refusal) {after after' : PairAreas} → PairOutcome starts heads weights chosen starts' heads' weights' s t before (said_of a) after →
       PairOutcome starts heads weights chosen starts' heads' weights' s t before (said_of b) after' → (a ≡ b) × (after ≡ after')
   pair_answer_one a b o p = let e = pair_one o p in (said_one a b e.0, e.1)
 

@@ -1,12 +1,11 @@
 -- What the checks of a question's nodes leave.
 use mathlib.Core.Path.{◌≡◌}
 use Prim.Native.Nat.{ℕ, ◌<◌}
+use Rattle.std.specs.Prelude.{Ok}
 use native.Mathlib.Decide.{dec_lt}
 use native.Mathlib.Omega.{arith}
-use Rattle.road.specs.declared.Verdict.{Verdict}
-use Rattle.road.specs.declared.Verdict.TheVariants.{Passed}
 use Rattle.road.specs.Faults.{NoNode, node_fault}
-use Rattle.road.specs.workings.Verdicts.{Judged}
+use Rattle.road.specs.workings.Verdicts.{Verdict, Judged}
 use Rattle.road.proofs.Refusals.{unheld}
 
 module _ (n s t : ℕ) (f : NoNode n s t → ⊥) where
@@ -24,8 +23,8 @@ module _ (n s t : ℕ) (f : NoNode n s t → ⊥) where
       by (yes h) = h
       by (no h) = absurd (f (NoNode.to (omega arith)))
 
-pub passed_from : (n s t : ℕ) (v : Verdict) → Judged (node_fault n s t) v → v ≡ Passed → s < n
+pub passed_from : (n s t : ℕ) (v : Verdict) → Judged (node_fault n s t) v → v ≡ Ok tt → s < n
 passed_from n s t v j e = from_node n s t (unheld (j.passed e))
 
-pub passed_to : (n s t : ℕ) (v : Verdict) → Judged (node_fault n s t) v → v ≡ Passed → t < n
+pub passed_to : (n s t : ℕ) (v : Verdict) → Judged (node_fault n s t) v → v ≡ Ok tt → t < n
 passed_to n s t v j e = to_node n s t (unheld (j.passed e))

@@ -17,7 +17,8 @@ use Rattle.road.proofs.Faults.{road_proper, road_lighter}
 use Rattle.road.proofs.Filled.{zeros_at}
 use Rattle.search.specs.workings.Rows.{Free, Row, Asks, label_at}
 use Rattle.overlay.proofs.Locals.{reaches_under}
-use Rattle.distance.specs.workings.Labels.{Small, Modest, Searchable}
+use Rattle.distance.specs.declared.HandWork.{HandWork}
+use Rattle.distance.specs.workings.Labels.{Small, Modest, Searchable, Leaves}
 
 -- no label is more than one over 16,769,025,000,000
 pub row_small :
@@ -72,3 +73,24 @@ module _ (starts heads weights blocked labels heap places : List ℕ) (s : Searc
   -- nothing is blocked, so the row is over all paths
   pub row_any : (a : ℕ) (labels' : List ℕ) → Row (road starts heads weights) blocked a labels' → (b : ℕ) → b < nodes_of starts → Told (Reaches (road starts heads weights) Any a b) (label_at labels' b)
   row_any a labels' r b h = told_carries (reaches_under (λ v f. tt)) (reaches_under (λ v f. all_free v)) (r.told b h)
+
+-- what two searches leave, one after the other
+pub leaves_again :
+    {starts heads weights : List ℕ} {first second third : HandWork} → Leaves starts heads weights first second → Leaves starts heads weights second third →
+    Leaves starts heads weights first third
+leaves_again x y =
+    record {
+      searchable = y.searchable;
+      heap = y.heap ∙ x.heap;
+      places = y.places ∙ x.places;
+      touched = y.touched ∙ x.touched;
+      blocked = y.blocked ∙ x.blocked;
+      same_slices =
+          record {
+            labels = y.same_slices.labels ∙ x.same_slices.labels;
+            heap = y.same_slices.heap ∙ x.same_slices.heap;
+            places = y.same_slices.places ∙ x.same_slices.places;
+            touched = y.same_slices.touched ∙ x.same_slices.touched;
+            blocked = y.same_slices.blocked ∙ x.same_slices.blocked;
+          };
+    }

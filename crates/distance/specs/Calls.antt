@@ -1,5 +1,5 @@
 -- The calls: what they are lent, what they say, and what they leave.
-use Rattle.std.specs.Prelude.{List, [], ◌∷◌, ◌++◌, ℕ, ◌+◌, ◌*◌, length, replicate}
+use Rattle.std.specs.Prelude.{List, [], ◌∷◌, ◌++◌, ℕ, ◌+◌, ◌*◌, Option, Some, Result, Ok, Err, length, replicate}
 use Rattle.paths.specs.Least.{Least, Empty}
 use Rattle.road.specs.declared.Refusal.{Refusal}
 use Rattle.road.specs.Chains.{lone_set_faults, road_and_set_faults}
@@ -7,15 +7,13 @@ use Rattle.road.specs.Faults.{node_fault, outside_fault, lengths_fault}
 use Rattle.road.specs.Refusals.{Fault, First, None, Said, refusal, answer}
 use Rattle.road.specs.Roads.{nodes_of, road}
 use Rattle.overlay.specs.Lent.{overlay_fault}
-use Rattle.distance.specs.declared.DistanceAnswer.{DistanceAnswer}
-use Rattle.distance.specs.declared.DistanceAnswer.TheVariants.{Way, NoWay, Refused}
 use Rattle.distance.specs.Questions.{Handheld, AnyPair}
 
 -- the number and the values of each answer: 1 and the weight of a way, 0 alone for no way, or a refusal's number alone
-abbrev pub said_of : DistanceAnswer → Said
-said_of (Way d) = answer (1 ∷ d ∷ [])
-said_of NoWay = answer (0 ∷ [])
-said_of (Refused r) = refusal r
+abbrev pub said_of : Result (Option ℕ) Refusal → Said
+said_of (Ok (Some d)) = answer (1 ∷ d ∷ [])
+said_of (Ok Option.None) = answer (0 ∷ [])
+said_of (Err r) = refusal r
 
 -- what is said of the weights P: the least of them, or no way where there is none
 pub data Answers (P : ℕ → Type 0) : Said → Type 0 where

@@ -2,3 +2,4 @@
 pub mod Questions
 pub mod Calls
 pub mod workings
+pub mod Lent

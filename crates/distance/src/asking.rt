@@ -1,179 +1,142 @@
 // The two questions, everything being checked. Work is cleared before, since it may hold anything,
 // and left zero.
-ghost use Rattle.std.specs.Prelude.{◌≡◌, length, replicate};
+ghost use Rattle.std.specs.Prelude.{◌≡◌, ◌<◌, length, replicate};
 ghost use Rattle.paths.specs.Least.{Told};
+ghost use Rattle.road.specs.Lent.{SameSlices};
 ghost use Rattle.road.specs.Roads.{nodes_of, road};
-ghost use Rattle.distance.specs.workings.Ready.{HandReady, PairReady};
-ghost use Rattle.distance.specs.Calls.{pair_areas, hand_areas, hand_cleared, pair_cleared};
-ghost use Rattle.distance.specs.workings.Labels.{RowsAsked, RowsFound, label_of};
+ghost use Rattle.distance.specs.Calls.{hand_cleared, pair_cleared};
+ghost use Rattle.distance.specs.Lent.{SameHand, hand_held, parts_held};
 ghost use Rattle.distance.specs.Questions.{AnyPair, Handheld};
+ghost use Rattle.distance.specs.workings.Labels.{Leaves, RowsAsked, RowsFound, Searchable, label_of};
+ghost use Rattle.distance.specs.workings.Ready.{HandReady, PairReady};
+ghost use Rattle.search.specs.workings.Rows.{Row};
 
-use crate::Distance;
 use crate::sums::{lesser, shown};
 use crate::through::through_overlay;
-use road::{clear, fill_bytes};
-use search::{clear_labels, search};
+use crate::{HandWork, Ways};
+use road::{Graph, GraphMut};
+use search::{Queue, search};
 use turning::turn;
 
-// Fills the queue, and what goes with it, with zeros.
-fn clear_queue(heap: &mut [u32], places: &mut [u32], touched: &mut [u32], blocked: &mut [u8])
-    ensures { (heap.new ≡ replicate (length heap.old) 0) × (places.new ≡ replicate (length places.old) 0) × (touched.new ≡ replicate (length touched.old) 0) × (blocked.new ≡ replicate (length blocked.old) 0) }
-{
-    clear(heap);
-    clear(places);
-    clear(touched);
-    fill_bytes(blocked, 0);
+impl<'a> HandWork<'a> {
+    // Fills the queue, and what goes with it, with zeros.
+    fn clear_queue(&mut self)
+        ensures heap { self.new.heap.now ≡ replicate (length self.old.heap.now) 0 }
+        ensures places { self.new.places.now ≡ replicate (length self.old.places.now) 0 }
+        ensures touched { self.new.touched.now ≡ replicate (length self.old.touched.now) 0 }
+        ensures blocked { self.new.blocked.now ≡ replicate (length self.old.blocked.now) 0 }
+        ensures labels { self.new.labels.now ≡ self.old.labels.now }
+        ensures same_slices { SameHand self.old self.new }
+    {
+        self.heap.fill(0);
+        self.places.fill(0);
+        self.touched.fill(0);
+        self.blocked.fill(0);
+    }
+
+    // Labels the nodes of the overlay by what they are from one of them.
+    pub fn search(&mut self, overlay: &Graph, from: usize)
+        requires searchable { Searchable overlay.now.starts.now overlay.now.heads.now overlay.now.weights.now self.old.blocked.now self.old.labels.now self.old.heap.now self.old.places.now }
+        requires from_bound { from < nodes_of overlay.now.starts.now }
+        ensures row { Row (road overlay.now.starts.now overlay.now.heads.now overlay.now.weights.now) self.old.blocked.now from self.new.labels.now }
+        ensures leaves { Leaves overlay.now.starts.now overlay.now.heads.now overlay.now.weights.now self.old self.new }
+    {
+        let blocked = &mut *self.blocked;
+        let mut queue = Queue {
+            heap: &mut *self.heap,
+            places: &mut *self.places,
+            waiting: 0,
+        };
+        search(overlay, blocked, from, self.labels, &mut queue);
+    }
 }
 
-// Fills the graph turned round and the rows with zeros.
-fn clear_rows(
-    starts_back: &mut [u32],
-    heads_back: &mut [u32],
-    weights_back: &mut [u32],
-    outward: &mut [u64],
-    inward: &mut [u64],
-    labels: &mut [u64],
-)
-    ensures starts_back_value { (starts_back.new ≡ replicate (length starts_back.old) 0) × (heads_back.new ≡ replicate (length heads_back.old) 0) × (weights_back.new ≡ replicate (length weights_back.old) 0) }
-    ensures outward_value { (outward.new ≡ replicate (length outward.old) 0) × (inward.new ≡ replicate (length inward.old) 0) × (labels.new ≡ replicate (length labels.old) 0) }
+// Fills the graph turned round with zeros.
+fn clear_back(back: &mut GraphMut)
+    ensures starts { back.new.starts.now ≡ replicate (length back.old.starts.now) 0 }
+    ensures heads { back.new.heads.now ≡ replicate (length back.old.heads.now) 0 }
+    ensures weights { back.new.weights.now ≡ replicate (length back.old.weights.now) 0 }
+    ensures same_slices { SameSlices back.old back.new }
 {
-    clear(starts_back);
-    clear(heads_back);
-    clear(weights_back);
-    clear_labels(outward);
-    clear_labels(inward);
-    clear_labels(labels);
+    back.starts.fill(0);
+    back.heads.fill(0);
+    back.weights.fill(0);
 }
 
 // The distance in the overlay from s to t.
-pub fn ask_overlay(
-    starts: &[u32],
-    heads: &[u32],
-    weights: &[u32],
-    s: usize,
-    t: usize,
-    labels: &mut [u64],
-    heap: &mut [u32],
-    places: &mut [u32],
-    touched: &mut [u32],
-    blocked: &mut [u8],
-) -> Distance
-    requires { HandReady starts.now heads.now weights.now s t (hand_areas labels.old heap.old places.old touched.old blocked.old) }
-    ensures told { Told (Handheld (road starts.now heads.now weights.now) s t) (label_of result) }
-    ensures blocked_value { hand_areas labels.new heap.new places.new touched.new blocked.new ≡ hand_cleared (nodes_of starts.now) }
+pub fn ask_overlay(overlay: &Graph, s: usize, t: usize, work: &mut HandWork) -> Option<u64>
+    requires { HandReady overlay.now.starts.now overlay.now.heads.now overlay.now.weights.now s t (hand_held work.old) }
+    ensures told { Told (Handheld (road overlay.now.starts.now overlay.now.heads.now overlay.now.weights.now) s t) (label_of result) }
+    ensures cleared { hand_held work.new ≡ hand_cleared (nodes_of overlay.now.starts.now) }
+    ensures same_slices { SameHand work.old work.new }
 {
-    clear_queue(heap, places, touched, blocked);
-    search(starts, heads, weights, blocked, s, labels, heap, places);
-    let found = shown(labels[t]);
-    clear_labels(labels);
+    work.clear_queue();
+    work.search(overlay, s);
+    let found = shown(work.labels[t]);
+    work.labels.fill(0);
     found
 }
 
 // The row from s and the row into t, over paths with no node of the set strictly inside.
 fn find_rows(
-    starts: &[u32],
-    heads: &[u32],
-    weights: &[u32],
+    graph: &Graph,
     set: &[u8],
     s: usize,
     t: usize,
-    starts_back: &mut [u32],
-    heads_back: &mut [u32],
-    weights_back: &mut [u32],
+    back: &mut GraphMut,
     outward: &mut [u64],
     inward: &mut [u64],
-    heap: &mut [u32],
-    places: &mut [u32],
+    hand: &mut HandWork,
 )
-    requires { RowsAsked starts.now heads.now weights.now set.now s t starts_back.old heads_back.old weights_back.old outward.old inward.old heap.old places.old }
-    ensures rows_found { RowsFound (road starts.now heads.now weights.now) set.now s t outward.new inward.new }
-    ensures heap_value { (heap.new ≡ heap.old) × (places.new ≡ places.old) }
+    requires { RowsAsked graph.now.starts.now graph.now.heads.now graph.now.weights.now set.now s t back.old.starts.now back.old.heads.now back.old.weights.now outward.old inward.old hand.old.heap.now hand.old.places.now }
+    ensures rows_found { RowsFound (road graph.now.starts.now graph.now.heads.now graph.now.weights.now) set.now s t outward.new inward.new }
+    ensures asked { RowsAsked graph.now.starts.now graph.now.heads.now graph.now.weights.now set.now s t back.new.starts.now back.new.heads.now back.new.weights.now outward.new inward.new hand.new.heap.now hand.new.places.now }
+    ensures hand { hand_held hand.new ≡ hand_held hand.old }
+    ensures same_back { SameSlices back.old back.new }
+    ensures same_hand { SameHand hand.old hand.new }
 {
-    turn(
-        starts,
-        heads,
-        weights,
-        starts_back,
-        heads_back,
-        weights_back,
-    );
-    search(starts, heads, weights, set, s, outward, heap, places);
-    search(
-        starts_back,
-        heads_back,
-        weights_back,
-        set,
-        t,
-        inward,
-        heap,
-        places,
-    );
+    turn(graph, back);
+    let mut queue = Queue {
+        heap: &mut *hand.heap,
+        places: &mut *hand.places,
+        waiting: 0,
+    };
+    search(graph, set, s, outward, &mut queue);
+    search(&back.lent(), set, t, inward, &mut queue);
 }
 
 // The least of the direct way and of the ways through the overlay.
 pub fn ask_pair(
-    starts: &[u32],
-    heads: &[u32],
-    weights: &[u32],
+    graph: &Graph,
     set: &[u8],
-    over_starts: &[u32],
-    over_heads: &[u32],
-    over_weights: &[u32],
+    overlay: &Graph,
     s: usize,
     t: usize,
-    starts_back: &mut [u32],
-    heads_back: &mut [u32],
-    weights_back: &mut [u32],
+    back: &mut GraphMut,
     outward: &mut [u64],
     inward: &mut [u64],
-    labels: &mut [u64],
-    heap: &mut [u32],
-    places: &mut [u32],
-    touched: &mut [u32],
-    blocked: &mut [u8],
-) -> Distance
-    requires { PairReady starts.now heads.now weights.now set.now over_starts.now over_heads.now over_weights.now s t (pair_areas starts_back.old heads_back.old weights_back.old outward.old inward.old labels.old heap.old places.old touched.old blocked.old) }
-    ensures told { Told (AnyPair (road starts.now heads.now weights.now) (road over_starts.now over_heads.now over_weights.now) set.now s t) (label_of result) }
-    ensures blocked_value { pair_areas starts_back.new heads_back.new weights_back.new outward.new inward.new labels.new heap.new places.new touched.new blocked.new ≡ pair_cleared (nodes_of starts.now) (length heads.now) }
+    hand: &mut HandWork,
+) -> Option<u64>
+    requires { PairReady graph.now.starts.now graph.now.heads.now graph.now.weights.now set.now overlay.now.starts.now overlay.now.heads.now overlay.now.weights.now s t (parts_held back.old outward.old inward.old hand.old) }
+    ensures told { Told (AnyPair (road graph.now.starts.now graph.now.heads.now graph.now.weights.now) (road overlay.now.starts.now overlay.now.heads.now overlay.now.weights.now) set.now s t) (label_of result) }
+    ensures cleared { parts_held back.new outward.new inward.new hand.new ≡ pair_cleared (nodes_of graph.now.starts.now) (length graph.now.heads.now) }
+    ensures same_back { SameSlices back.old back.new }
+    ensures same_hand { SameHand hand.old hand.new }
 {
-    clear_queue(heap, places, touched, blocked);
-    find_rows(
-        starts,
-        heads,
-        weights,
-        set,
-        s,
-        t,
-        starts_back,
-        heads_back,
-        weights_back,
-        outward,
-        inward,
-        heap,
-        places,
-    );
+    hand.clear_queue();
+    find_rows(graph, set, s, t, back, outward, inward, hand);
     let direct = shown(outward[t]);
-    let through = through_overlay(
-        over_starts,
-        over_heads,
-        over_weights,
+    let ways = Ways {
         set,
-        outward,
-        inward,
+        outward: &*outward,
+        inward: &*inward,
         s,
         t,
-        blocked,
-        labels,
-        heap,
-        places,
-    );
-    clear_rows(
-        starts_back,
-        heads_back,
-        weights_back,
-        outward,
-        inward,
-        labels,
-    );
+    };
+    let through = through_overlay(overlay, &ways, hand);
+    clear_back(back);
+    outward.fill(0);
+    inward.fill(0);
+    hand.labels.fill(0);
     lesser(direct, through)
 }

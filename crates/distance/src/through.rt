@@ -1,116 +1,68 @@
 // The ways through the overlay: in at one node of the set, and out at another.
-ghost use Rattle.std.specs.Prelude.{◌≡◌, ◌<◌, length, get_or};
+ghost use Rattle.std.specs.Prelude.{◌≡◌, ◌<◌, length};
 ghost use Rattle.paths.specs.Least.{Told};
 ghost use Rattle.road.specs.Roads.{nodes_of, road};
-ghost use Rattle.distance.specs.workings.Labels.{Entries, Exits, Gate, Modest, Rows, Says, Searchable, Small, Sum, Through, label_of};
+ghost use Rattle.distance.specs.workings.Labels.{Entries, Exits, Gate, Leaves, Modest, Rows, Says, Searchable, Small, Sum, Through, label_of};
 ghost use Rattle.search.specs.workings.Rows.{label_at};
 
-use crate::Distance;
 use crate::sums::{gate, lesser, shown, sum};
-use search::search;
+use crate::{HandWork, Ways};
+use road::Graph;
 
 // From s over an entry at the distance `first`, through the overlay, whose row of that entry is
 // given, and out at b.
-fn through_exit(
-    set: &[u8],
-    labels: &[u64],
-    inward: &[u64],
-    t: usize,
-    first: Distance,
-    b: usize,
-) -> Distance
-    requires t_in_bounds { t < length set.now }
-    requires b_in_bounds { b < length set.now }
-    requires labels_len { length labels.now ≡ length set.now }
-    requires inward_len { length inward.now ≡ length set.now }
+fn through_exit(ways: &Ways, labels: &[u64], first: Option<u64>, b: usize) -> Option<u64>
+    requires rows { Rows ways.now.set.now ways.now.outward.now ways.now.inward.now ways.now.s ways.now.t (length labels.now) }
+    requires b_in_bounds { b < length labels.now }
     requires small { Small labels.now }
-    requires small_2 { Small inward.now }
     requires modest { Modest (label_of first) }
-    ensures { Told (Sum (Says (label_of first)) (Says (label_at labels.now b)) (Gate set.now inward.now t b)) (label_of result) }
+    ensures { Told (Sum (Says (label_of first)) (Says (label_at labels.now b)) (Gate ways.now.set.now ways.now.inward.now ways.now.t b)) (label_of result) }
 {
     let middle = shown(labels[b]);
-    let last = gate(set, inward, t, b);
+    let last = gate(ways.set, ways.inward, ways.t, b);
     sum(first, middle, last)
 }
 
 // The least over all exits.
-fn through_exits(set: &[u8], labels: &[u64], inward: &[u64], t: usize, first: Distance) -> Distance
-    requires t_in_bounds { t < length set.now }
-    requires labels_len { length labels.now ≡ length set.now }
-    requires inward_len { length inward.now ≡ length set.now }
+fn through_exits(ways: &Ways, labels: &[u64], first: Option<u64>) -> Option<u64>
+    requires rows { Rows ways.now.set.now ways.now.outward.now ways.now.inward.now ways.now.s ways.now.t (length labels.now) }
     requires small { Small labels.now }
-    requires small_2 { Small inward.now }
     requires modest { Modest (label_of first) }
-    ensures { Told (Exits set.now labels.now inward.now t (label_of first) (length set.now)) (label_of result) }
+    ensures { Told (Exits ways.now.set.now labels.now ways.now.inward.now ways.now.t (label_of first) (length ways.now.set.now)) (label_of result) }
 {
-    let mut best = Distance::NoWay;
-    let mut b = 0;
-    while b < set.len() {
-        let found = through_exit(set, labels, inward, t, first, b);
-        best = lesser(best, found);
-        b += 1;
+    let mut best = None;
+    for b in 0..ways.set.len() {
+        best = lesser(best, through_exit(ways, labels, first, b));
     }
     best
 }
 
 // The least over one entry and all exits. A node that is no entry costs no search.
-fn through_entry(
-    starts: &[u32],
-    heads: &[u32],
-    weights: &[u32],
-    set: &[u8],
-    outward: &[u64],
-    inward: &[u64],
-    s: usize,
-    t: usize,
-    blocked: &[u8],
-    labels: &mut [u64],
-    heap: &mut [u32],
-    places: &mut [u32],
-    a: usize,
-) -> Distance
-    requires searchable { Searchable starts.now heads.now weights.now blocked.now labels.old heap.old places.old }
-    requires rows { Rows set.now outward.now inward.now s t (nodes_of starts.now) }
-    requires a_bound { a < nodes_of starts.now }
-    ensures told { Told (Through (road starts.now heads.now weights.now) set.now outward.now inward.now s t a) (label_of result) }
-    ensures heap_value { (heap.new ≡ heap.old) × (places.new ≡ places.old) }
+fn through_entry(overlay: &Graph, ways: &Ways, hand: &mut HandWork, a: usize) -> Option<u64>
+    requires searchable { Searchable overlay.now.starts.now overlay.now.heads.now overlay.now.weights.now hand.old.blocked.now hand.old.labels.now hand.old.heap.now hand.old.places.now }
+    requires rows { Rows ways.now.set.now ways.now.outward.now ways.now.inward.now ways.now.s ways.now.t (nodes_of overlay.now.starts.now) }
+    requires a_bound { a < nodes_of overlay.now.starts.now }
+    ensures told { Told (Through (road overlay.now.starts.now overlay.now.heads.now overlay.now.weights.now) ways.now.set.now ways.now.outward.now ways.now.inward.now ways.now.s ways.now.t a) (label_of result) }
+    ensures leaves { Leaves overlay.now.starts.now overlay.now.heads.now overlay.now.weights.now hand.old hand.new }
 {
-    let first = gate(set, outward, s, a);
-    let Distance::Way(_) = first else {
-        return Distance::NoWay;
-    };
-    search(starts, heads, weights, blocked, a, labels, heap, places);
-    through_exits(set, labels, inward, t, first)
+    let first = gate(ways.set, ways.outward, ways.s, a);
+    if first.is_none() {
+        return None;
+    }
+    hand.search(overlay, a);
+    through_exits(ways, hand.labels, first)
 }
 
 // The least over all entries and all exits.
-pub fn through_overlay(
-    starts: &[u32],
-    heads: &[u32],
-    weights: &[u32],
-    set: &[u8],
-    outward: &[u64],
-    inward: &[u64],
-    s: usize,
-    t: usize,
-    blocked: &[u8],
-    labels: &mut [u64],
-    heap: &mut [u32],
-    places: &mut [u32],
-) -> Distance
-    requires searchable { Searchable starts.now heads.now weights.now blocked.now labels.old heap.old places.old }
-    requires rows { Rows set.now outward.now inward.now s t (nodes_of starts.now) }
-    ensures told { Told (Entries (road starts.now heads.now weights.now) set.now outward.now inward.now s t (length set.now)) (label_of result) }
-    ensures heap_value { (heap.new ≡ heap.old) × (places.new ≡ places.old) }
+pub fn through_overlay(overlay: &Graph, ways: &Ways, hand: &mut HandWork) -> Option<u64>
+    requires searchable { Searchable overlay.now.starts.now overlay.now.heads.now overlay.now.weights.now hand.old.blocked.now hand.old.labels.now hand.old.heap.now hand.old.places.now }
+    requires rows { Rows ways.now.set.now ways.now.outward.now ways.now.inward.now ways.now.s ways.now.t (nodes_of overlay.now.starts.now) }
+    ensures told { Told (Entries (road overlay.now.starts.now overlay.now.heads.now overlay.now.weights.now) ways.now.set.now ways.now.outward.now ways.now.inward.now ways.now.s ways.now.t (length ways.now.set.now)) (label_of result) }
+    ensures leaves { Leaves overlay.now.starts.now overlay.now.heads.now overlay.now.weights.now hand.old hand.new }
 {
-    let mut best = Distance::NoWay;
-    let mut a = 0;
-    while a < set.len() {
-        let found = through_entry(
-            starts, heads, weights, set, outward, inward, s, t, blocked, labels, heap, places, a,
-        );
-        best = lesser(best, found);
-        a += 1;
+    let mut best = None;
+    for a in 0..ways.set.len() {
+        best = lesser(best, through_entry(overlay, ways, hand, a));
     }
     best
 }

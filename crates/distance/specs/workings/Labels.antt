@@ -1,5 +1,5 @@
 -- Distances as labels: 0 is no way, and d + 1 is a way of weight d.
-use Rattle.std.specs.Prelude.{◌≡◌, ◌⊎◌, ◌≢◌, List, ℕ, suc, ◌+◌, ◌≤◌, ◌<◌, length, get_or, replicate}
+use Rattle.std.specs.Prelude.{◌≡◌, ◌⊎◌, ◌≢◌, List, ℕ, suc, ◌+◌, ◌≤◌, ◌<◌, Option, Some, None, length, get_or, replicate}
 use Rattle.paths.specs.Graphs.{Graph, Reaches, Any}
 use Rattle.paths.specs.Least.{Told}
 use Rattle.road.specs.Faults.{InSet}
@@ -8,13 +8,13 @@ use Rattle.road.specs.Roads.{nodes_of}
 use Rattle.road.specs.workings.Sound.{Sound}
 use Rattle.overlay.specs.Overlays.{Outside}
 use Rattle.overlay.specs.workings.Writing.{Local}
-use Rattle.distance.specs.declared.Distance.{Distance}
-use Rattle.distance.specs.declared.Distance.TheVariants.{Way, NoWay}
+use Rattle.distance.specs.Lent.{SameHand}
+use Rattle.distance.specs.declared.HandWork.{HandWork}
 use Rattle.search.specs.workings.Rows.{label_at}
 
-abbrev pub label_of : Distance → ℕ
-label_of (Way d) = suc d
-label_of NoWay = 0
+abbrev pub label_of : Option ℕ → ℕ
+label_of (Some d) = suc d
+label_of None = 0
 
 -- r is the lesser of l and m, where there is one
 pub record Lesser (l m r : ℕ) : Type 0 where
@@ -91,11 +91,20 @@ pub record Searchable (starts heads weights blocked labels heap places : List �
   pub heap_zero : heap ≡ replicate (length heap) 0
   pub places_zero : places ≡ replicate (nodes_of starts) 0
 
+-- what a search in the overlay leaves: all but the labels as it was, so that the next search can follow
+pub record Leaves (starts heads weights : List ℕ) (before after : HandWork) : Type 0 where
+  pub searchable : Searchable starts heads weights after.blocked.now after.labels.now after.heap.now after.places.now
+  pub heap : after.heap.now ≡ before.heap.now
+  pub places : after.places.now ≡ before.places.now
+  pub touched : after.touched.now ≡ before.touched.now
+  pub blocked : after.blocked.now ≡ before.blocked.now
+  pub same_slices : SameHand before after
+
 -- the row into t: labels over paths with no node of the set strictly inside
 pub record Into (G : Graph) (chosen : List ℕ) (t : ℕ) (row : List ℕ) : Type 0 where
   pub told : (v : ℕ) → v < G.nodes → Told (Reaches G (Outside chosen) v t) (label_at row v)
 
--- what finding the two rows asks
+-- what finding the two rows asks, and leaves
 pub record RowsAsked (starts heads weights chosen : List ℕ) (s t : ℕ) (starts' heads' weights' outward inward heap places : List ℕ) : Type 0 where
   pub sound : Sound overlay_limits starts heads weights
   pub bytes : length chosen ≡ nodes_of starts

@@ -1,14 +1,15 @@
-use Rattle.distance.proofs.Outcomes.{pair_refused_early, pair_refused_late, pair_ready, pair_answered}
+use mathlib.Core.Path.{refl}
+use Rattle.distance.proofs.Outcomes.{pair_handed, pair_refused_early, pair_refused_late, pair_ready, pair_answered, said_found}
 use Rattle.distance.proofs.calls.any_pair.Goals as goal
 
-pub returns-in-Refused : goal.returns-in-Refused
-returns-in-Refused c = pair_refused_early _ _ _ _ _ _ _ _ _ _ _ _ c.check_pair_input-input.ensures c.in-Refused.is
+pub returns-in_err-check_pair_input-clause-outcome : goal.returns-in_err-check_pair_input-clause-outcome
+returns-in_err-check_pair_input-clause-outcome c = pair_handed _ _ _ _ _ _ _ _ _ _ _ _ c.from_residual.ensures.1 (pair_refused_early _ _ _ _ _ _ _ _ _ _ _ _ c.check_pair_input.ensures c.in_err-check_pair_input.was)
 
-pub returns-in-Refused-lengths : goal.returns-in-Refused-lengths
-returns-in-Refused-lengths c = pair_refused_late _ _ _ _ _ _ _ _ _ _ _ c.check_pair_input-input.ensures c.in_default.is _ (rw c.node_count.ensures at c.check_pair_lengths-lengths.ensures) _ c.in-Refused-lengths.is
+pub returns-in_err-check_pair_lengths-clause-outcome : goal.returns-in_err-check_pair_lengths-clause-outcome
+returns-in_err-check_pair_lengths-clause-outcome c = pair_handed _ _ _ _ _ _ _ _ _ _ _ _ c.from_residual-in_err-check_pair_lengths.ensures.1 (pair_refused_late _ _ _ _ _ _ _ _ _ _ _ c.check_pair_input.ensures c.in_ok-check_pair_input.was _ (rw c.node_count.ensures at c.check_pair_lengths.ensures) _ c.in_err-check_pair_lengths.was)
 
-pub ask_pair-found-requires : goal.ask_pair-found-requires
-ask_pair-found-requires c = pair_ready _ _ _ _ _ _ _ _ _ _ _ c.check_pair_input-input.ensures c.in_default.is _ (rw c.node_count.ensures at c.check_pair_lengths-lengths.ensures) c.in_default-lengths.is _ _ c.wide.ensures c.wide-2.ensures
+pub ask_pair-requires : goal.ask_pair-requires
+ask_pair-requires c = pair_ready _ _ _ _ _ _ _ _ _ _ _ c.check_pair_input.ensures c.in_ok-check_pair_input.was _ (rw c.node_count.ensures at c.check_pair_lengths.ensures) c.in_ok-check_pair_lengths.was _ _ refl refl
 
-pub returns : goal.returns
-returns c = pair_answered _ _ _ _ _ _ _ _ _ _ _ c.check_pair_input-input.ensures c.in_default.is _ (rw c.node_count.ensures at c.check_pair_lengths-lengths.ensures) c.in_default-lengths.is _ _ _ c.wide.ensures c.wide-2.ensures c.ask_pair-found.ensures.told _ c.ask_pair-found.ensures.blocked_value _ c.answer.ensures
+pub returns-clause-outcome : goal.returns-clause-outcome
+returns-clause-outcome c = pair_answered _ _ _ _ _ _ _ _ _ _ _ c.check_pair_input.ensures c.in_ok-check_pair_input.was _ (rw c.node_count.ensures at c.check_pair_lengths.ensures) c.in_ok-check_pair_lengths.was _ _ _ refl refl c.ask_pair.ensures.told _ c.ask_pair.ensures.cleared _ (said_found _)
