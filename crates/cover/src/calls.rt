@@ -8,6 +8,7 @@ ghost use Rattle.cover.specs.Calls.{areas_of, Outcome, SameWork, asked_lengths, 
 
 use crate::Work;
 use crate::pruning::prune;
+use pieces::Roads;
 use road::{ArcCount, Graph, NodeCount, Refusal, check_cover_input, check_lengths};
 use turning::turn;
 
@@ -57,15 +58,12 @@ fn build(graph: &Graph, k: NodeCount, order: &[u32], cover: &mut [u8], work: &mu
     // A size left over would be sound but useless: it would hide rejections.
     work.sizes.fill(0);
     turn(graph, &mut work.back);
-    prune(
-        graph,
-        &work.back.lent(),
+    let roads = Roads {
+        ahead: *graph,
+        back: work.back.lent(),
         k,
-        order,
-        cover,
-        work.pieces,
-        work.sizes,
-    );
+    };
+    prune(&roads, order, cover, work.pieces, work.sizes);
     clear(work);
     count_ones(cover)
 }

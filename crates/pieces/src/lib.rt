@@ -3,4 +3,17 @@
 
 mod sizes;
 
-pub use sizes::{size_for, spread};
+ghost use Rattle.road.specs.workings.Left.{OfK};
+
+use road::{Graph, NodeCount};
+
+// The graph whose nodes are pruned, the same turned round, and k. That the one is the other turned
+// round stands in the contracts: a ghost field's fact has one proof alone, and this one has several,
+// since an arc is told with its place.
+#[derive(Clone, Copy)]
+pub struct Roads<'a> {
+    pub ahead: Graph<'a>,
+    pub back: Graph<'a>,
+    pub k: NodeCount,
+    pub ghost of_k: { OfK k.0 },
+}

@@ -2,12 +2,11 @@
 // seen not to be needed. Nothing is searched here.
 ghost use Rattle.std.specs.Prelude.{◌≡◌, ◌+◌, ◌≤◌, ◌<◌, length};
 ghost use Rattle.road.specs.Counting.{under};
-ghost use Rattle.road.specs.Roads.{road};
 ghost use Rattle.pieces.specs.workings.Pieces.{Below, Fits, Kept, Raised, Raises, Row, Spread, Spreads};
 ghost use Rattle.trails.specs.workings.Search.{Searchable};
-ghost use Rattle.pieces.specs.workings.Steps.{Prunable};
-ghost use Rattle.road.specs.workings.Left.{OfK};
+ghost use Rattle.pieces.specs.workings.Steps.{PrunableOver, road_of};
 
+use crate::Roads;
 use road::{Graph, NodeCount};
 
 // Of p and x the one whose size is larger, where x is dropped; otherwise p.
@@ -69,40 +68,6 @@ fn largest(graph: &Graph, cover: &[u8], sizes: &[u32], v: usize, but: u32) -> us
     best
 }
 
-// A size for v, if it is dropped: a path through v comes in by one neighbour and leaves by another,
-// so the two largest sizes and one more bound it. From k on a size says nothing.
-pub fn size_for(
-    graph: &Graph,
-    back: &Graph,
-    k: NodeCount,
-    cover: &[u8],
-    pieces: &[u32],
-    sizes: &[u32],
-    v: u32,
-) -> NodeCount
-    requires prunable { Prunable graph.now.starts.now graph.now.heads.now graph.now.weights.now back.now.starts.now back.now.heads.now back.now.weights.now cover.now }
-    requires of_k { OfK k.0 }
-    requires kept { Kept (road graph.now.starts.now graph.now.heads.now graph.now.weights.now) k.0 cover.now sizes.now pieces.now }
-    requires v_in_bounds { v < length cover.now }
-    ensures { Fits (road graph.now.starts.now graph.now.heads.now graph.now.weights.now) k.0 cover.now sizes.now v result.0 }
-{
-    let at = v as usize;
-    let ahead = top(graph, cover, sizes, at, v);
-    let p = top(back, cover, sizes, at, ahead);
-    let out = largest(graph, cover, sizes, at, p);
-    let into = largest(back, cover, sizes, at, p);
-    let second = out.max(into);
-    let first = second.max(sizes[p as usize] as usize);
-    if k.0 <= first {
-        return k;
-    }
-    let size = first + second + 1;
-    if k.0 <= size {
-        return k;
-    }
-    NodeCount(size)
-}
-
 // Raises y's size to r where y is dropped and its size is smaller; then y waits.
 fn raise(cover: &[u8], pieces: &mut [u32], sizes: &mut [u32], count: usize, r: u32, y: u32) -> usize
     requires sizes_len { length sizes.old ≡ length cover.now }
@@ -145,27 +110,48 @@ fn raise_row(
     count
 }
 
-// Spreads the size r from the node that waits, until no dropped node next to one of size r is of a
-// smaller size.
-pub fn spread(
-    graph: &Graph,
-    back: &Graph,
-    cover: &[u8],
-    pieces: &mut [u32],
-    sizes: &mut [u32],
-    r: u32,
-)
-    requires prunable { Prunable graph.now.starts.now graph.now.heads.now graph.now.weights.now back.now.starts.now back.now.heads.now back.now.weights.now cover.now }
-    requires spreads { Spreads (road graph.now.starts.now graph.now.heads.now graph.now.weights.now) cover.now r sizes.old pieces.old 0 1 }
-    ensures { Spread (road graph.now.starts.now graph.now.heads.now graph.now.weights.now) cover.now r sizes.old sizes.new }
-{
-    let mut i = 0;
-    let mut count = 1;
-    // A while: the list of those that wait grows as it is gone through, so no range counts it.
-    while i < count {
-        let x = pieces[i] as usize;
-        count = raise_row(graph, cover, pieces, sizes, count, r, x);
-        count = raise_row(back, cover, pieces, sizes, count, r, x);
-        i += 1;
+impl<'a> Roads<'a> {
+    // A size for v, if it is dropped: a path through v comes in by one neighbour and leaves by
+    // another, so the two largest sizes and one more bound it. From k on a size says nothing.
+    pub fn size_for(&self, cover: &[u8], pieces: &[u32], sizes: &[u32], v: u32) -> NodeCount
+        requires prunable { PrunableOver self.now cover.now }
+        requires kept { Kept (road_of self.now) self.now.k.0 cover.now sizes.now pieces.now }
+        requires v_in_bounds { v < length cover.now }
+        ensures { Fits (road_of self.now) self.now.k.0 cover.now sizes.now v result.0 }
+    {
+        let at = v as usize;
+        let k = self.k;
+        let ahead = top(&self.ahead, cover, sizes, at, v);
+        let p = top(&self.back, cover, sizes, at, ahead);
+        let out = largest(&self.ahead, cover, sizes, at, p);
+        let into = largest(&self.back, cover, sizes, at, p);
+        let second = out.max(into);
+        let first = second.max(sizes[p as usize] as usize);
+        if k.0 <= first {
+            return k;
+        }
+        let size = first + second + 1;
+        if k.0 <= size {
+            return k;
+        }
+        NodeCount(size)
+    }
+
+    // Spreads the size r from the node that waits, until no dropped node next to one of size r is
+    // of a smaller size.
+    pub fn spread(&self, cover: &[u8], pieces: &mut [u32], sizes: &mut [u32], r: u32)
+        requires prunable { PrunableOver self.now cover.now }
+        requires spreads { Spreads (road_of self.now) cover.now r sizes.old pieces.old 0 1 }
+        ensures { Spread (road_of self.now) cover.now r sizes.old sizes.new }
+    {
+        let mut i = 0;
+        let mut count = 1;
+        // A while: the list of those that wait grows as it is gone through, so no range counts it.
+        while i < count {
+            let x = pieces[i] as usize;
+            count = raise_row(&self.ahead, cover, pieces, sizes, count, r, x);
+            count = raise_row(&self.back, cover, pieces, sizes, count, r, x);
+            i += 1;
+        }
     }
 }

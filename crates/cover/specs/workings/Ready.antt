@@ -7,8 +7,14 @@ use Rattle.road.specs.Roads.{nodes_of, road}
 use Rattle.road.specs.workings.Sound.{Sound}
 use Rattle.rule.specs.Rule.{PathOf, Pruned}
 use Rattle.road.specs.workings.Left.{OfK}
+use Rattle.pieces.specs.declared.Roads.{Roads}
+use Rattle.pieces.specs.workings.Steps.{road_of}
 use Rattle.cover.specs.declared.Work.{Work}
 use Rattle.cover.specs.Calls.{Areas, answered}
+
+-- the paths that are covered
+abbrev pub paths_of : Roads → List ℕ → Type 0
+paths_of r = PathOf (road_of r) r.k.0
 
 -- what the checks leave: the graph is well formed, k and the order are right, and so are the lengths
 pub record Ready (starts heads weights : List ℕ) (k : ℕ) (order : List ℕ) (a : Areas) : Type 0 where

@@ -2,7 +2,7 @@ use Rattle.pieces.proofs.Bounding.{two_fit}
 use Rattle.pieces.proofs.Ready.{search_back}
 use borrow.Author.Rules.{rules}
 use native.Mathlib.Omega.{arith}
-use Rattle.pieces.proofs.sizes.size_for.Goals as goal
+use Rattle.pieces.proofs.Roads.size_for.Goals as goal
 
 pub top-p-requires-clause-searchable : goal.top-p-requires-clause-searchable
 top-p-requires-clause-searchable c = search_back _ _ _ _ _ _ _ c.requires.prunable
