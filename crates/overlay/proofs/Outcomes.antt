@@ -35,10 +35,6 @@ use Rattle.overlay.proofs.Rooms.{overlay_of}
 pub zeros_of : (l : List ℕ) (n m : ℕ) → l ≡ replicate n 0 → n ≡ m → l ≡ replicate m 0
 zeros_of l n m e f = e ∙ ap (λ (x : ℕ). replicate x 0) f
 
--- what is left behind is what was left before it
-pub left_so : {l m k : List ℕ} → m ≡ k → l ≡ m → l ≡ k
-left_so e f = f ∙ e
-
 pub long_zeros : {l : List ℕ} {n : ℕ} → l ≡ replicate n 0 → length l ≡ n
 long_zeros {n = n} e = ap length e ∙ length-replicate {A = ℕ} n 0
 

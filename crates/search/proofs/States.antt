@@ -27,6 +27,10 @@ use Rattle.search.proofs.Heaps.{waits_node, same_slices, slices_then}
 use Rattle.road.proofs.Counting.{times_fewer, times_kept, times_each, times_all}
 use Rattle.road.specs.Counting.{times}
 
+-- what is left behind is what was left before it
+pub left_so : {l m k : List ℕ} → m ≡ k → l ≡ m → l ≡ k
+left_so e f = f ∙ e
+
 mass_set : (l : List ℕ) (i v : ℕ) → i < length l → mass (set l i v) + heavy (get_or l i 0) ≡ mass l + heavy v
 mass_set [] i v h = absurd (omega arith)
 mass_set (x ∷ l) zero v h = omega arith

@@ -107,6 +107,12 @@ pub fn search(graph: &Graph, blocked: &[u8], source: usize, labels: &mut [u64], 
     ensures heap_value { (queue.new.heap.now ≡ queue.old.heap.now) × (queue.new.places.now ≡ queue.old.places.now) }
     ensures slices { SameSlices queue.old queue.new }
 {
-    begin(graph, blocked, source, labels, queue);
-    run(graph, blocked, source, labels, queue);
+    // A queue of its own over the same slices: it stays in registers, the caller's would not.
+    let mut own = Queue {
+        heap: &mut *queue.heap,
+        places: &mut *queue.places,
+        waiting: 0,
+    };
+    begin(graph, blocked, source, labels, &mut own);
+    run(graph, blocked, source, labels, &mut own);
 }

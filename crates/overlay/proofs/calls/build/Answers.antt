@@ -1,7 +1,8 @@
 use Rattle.std.proofs.Common.{rules}
 use mathlib.Core.Path.{◌≡◌, sym, ◌∙◌}
 use lib.ListN.{length, replicate}
-use Rattle.overlay.proofs.Outcomes.{road_light, full_so, built_so, left_so, long_zeros, zeros_of}
+use Rattle.overlay.proofs.Outcomes.{road_light, full_so, built_so, long_zeros, zeros_of}
+use Rattle.search.proofs.States.{left_so}
 use Rattle.overlay.proofs.calls.build.Goals as goal
 
 pub returns-then-lack_room-clause-outcome : goal.returns-then-lack_room-clause-outcome

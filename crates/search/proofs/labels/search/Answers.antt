@@ -1,5 +1,6 @@
-use Rattle.search.proofs.States.{going_at, places_long, row_of, heap_empty, places_empty}
+use Rattle.std.proofs.Common.{rules}
 use mathlib.Core.Path.{sym, ◌∙◌}
+use Rattle.search.proofs.States.{going_at, places_long, row_of, heap_empty, places_empty, left_so}
 use Rattle.search.proofs.labels.search.Goals as goal
 
 pub returns-clause-row : goal.returns-clause-row
@@ -9,7 +10,12 @@ pub returns-clause-heap_value : goal.returns-clause-heap_value
 returns-clause-heap_value c =
     let done = going_at _ _ _ _ _ _ _ _ _ _ c.run.ensures.none c.run.ensures.going_2 in
     let first = c.begin.ensures.slices in
-    let then = c.run.ensures.slices in (
-      heap_empty _ _ _ _ _ _ _ _ done _ (then.heap_long ∙ first.heap_long) ∙ sym c.requires.heap_zero,
-      places_empty _ _ _ _ _ _ _ _ done _ (then.places_long ∙ first.places_long ∙ places_long _ _ _ _ _ _ _ _ c.requires) ∙ sym c.requires.places_zero,
+    let then = c.run.ensures.slices in
+    let heap = sym (then.heap ∙ first.heap) in
+    let places = sym (then.places ∙ first.places) in (
+      left_so (heap_empty _ _ _ _ _ _ _ _ done _ (then.heap_long ∙ first.heap_long) ∙ sym c.requires.heap_zero) (search rules),
+      left_so
+          (places_empty _ _ _ _ _ _ _ _ done _ (then.places_long ∙ first.places_long ∙ places_long _ _ _ _ _ _ _ _ c.requires) ∙
+          sym c.requires.places_zero)
+          (search rules),
     )
