@@ -4,8 +4,12 @@ use mathlib.Core.List.{List, [], ◌∷◌, ◌++◌}
 use Prim.Native.Nat.{ℕ, zero, suc, ◌+◌, ◌≤◌, ◌<◌}
 use native.Mathlib.Omega.{arith}
 use lib.Dec.{ltb}
-use lib.ListN.{length, get_or, set, take, length-set}
-use lib.Seq.{take-suc, take-suc-set, take-length}
+use mathlib.Core.Bool.{Bool, true, false}
+use Rattle.std.proofs.Math.Bool.{cond}
+use Rattle.std.proofs.lemmas.List.Recursion.{is_count_by}
+use Rattle.std.specs.List.{count_by}
+use lib.ListN.{length, set, take, length-set}
+use lib.Seq.{take-suc-set, take-length}
 use Rattle.road.specs.Counting.{bit, under}
 use Rattle.maps.specs.Lists.{belows, numbers}
 
@@ -51,33 +55,17 @@ belows_from tails v (suc c) =
     let e : suc v + c ≡ v + suc c = omega arith in
     ap (λ (l : List ℕ). under v tails ∷ l) (belows_from tails (suc v) c ∙ ap (λ (x : ℕ). belows tails (suc v) c ++ (under x tails ∷ [])) e)
 
-pub belows_more : (tails : List ℕ) (v x : ℕ) → x ≡ under v tails → belows tails 0 (suc v) ≡ belows tails 0 v ++ (x ∷ [])
+-- counting those below v
+under_counts : (v : ℕ) (l : List ℕ) → count_by (λ (x : ℕ). ltb x v) l ≡ under v l
+under_counts v l = sym (is_count_by (under v) (λ (x : ℕ). ltb x v) refl (λ x xs. by (ltb x v) (under v xs)) l)
+  where
+    by : (b : Bool) (n : ℕ) → bit b + n ≡ cond b (1 + n) n
+    by true n = refl
+    by false n = omega arith
+
+pub belows_more :
+    (tails : List ℕ) (v x : ℕ) → x ≡ count_by (λ (y : ℕ). ltb y v) tails → belows tails 0 (suc v) ≡ belows tails 0 v ++ (x ∷ [])
 belows_more tails v x h =
     let e : 0 + v ≡ v = omega arith in
-    belows_from tails 0 v ∙ ap (λ (y : ℕ). belows tails 0 v ++ (under y tails ∷ [])) e ∙ ap (λ (y : ℕ). belows tails 0 v ++ (y ∷ [])) (sym h)
-
--- counting those below v
-under_last : (v : ℕ) (l : List ℕ) (x : ℕ) → under v (l ++ (x ∷ [])) ≡ under v l + bit (ltb x v)
-under_last v [] x = omega arith
-under_last v (y ∷ l) x = let t = under_last v l x in omega arith
-
-pub record Below (v : ℕ) (l : List ℕ) (i count : ℕ) : Type 0 where
-  pub within : i ≤ length l
-  pub right : count ≡ under v (take i l)
-  pub few : count ≤ i
-
-pub below_none : (v : ℕ) (l : List ℕ) → Below v l 0 0
-below_none v l = record { within = omega arith; right = refl; few = omega arith }
-
-pub below_more :
-    (v : ℕ) (l : List ℕ) (i count x b : ℕ) → i < length l → x ≡ get_or l i 0 → (b ≡ bit (ltb x v)) × (b ≤ 1) → Below v l i count → Below v l (i + 1) (count + b)
-below_more v l i count x b h e q r =
-    let next : suc i ≡ i + 1 = omega arith in
-    let one : under v (take (i + 1) l) ≡ under v (take i l) + bit (ltb (get_or l i 0) v) =
-    ap (λ (j : ℕ). under v (take j l)) (sym next) ∙ ap (under v) (take-suc l i 0 h) ∙ under_last v (take i l) (get_or l i 0) in
-    let same = ap (λ (y : ℕ). bit (ltb y v)) e in
-    record { within = omega arith; right = omega (arith, one, same, q.0, r.right); few = omega (arith, q.1, r.few) }
-
-pub below_all : (v : ℕ) (l : List ℕ) (i count : ℕ) → length l ≤ i → Below v l i count → count ≡ under v l
-below_all v l i count h r =
-    let e : i ≡ length l = omega (arith, r.within) in r.right ∙ ap (λ (j : ℕ). under v (take j l)) e ∙ ap (under v) (take-length l)
+    belows_from tails 0 v ∙ ap (λ (y : ℕ). belows tails 0 v ++ (under y tails ∷ [])) e ∙
+    ap (λ (y : ℕ). belows tails 0 v ++ (y ∷ [])) (sym (h ∙ under_counts v tails))

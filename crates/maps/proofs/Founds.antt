@@ -2,9 +2,8 @@
 use mathlib.Core.Path.{◌≡◌, refl, ap, subst, ◌∙◌}
 use mathlib.Core.Logic.{inl, inr}
 use mathlib.Core.List.{List, [], ◌∷◌, ◌++◌}
-use Prim.Native.Nat.{ℕ, zero, suc, ◌-◌, ◌≤◌}
+use Prim.Native.Nat.{ℕ, zero, suc, ◌≤◌}
 use native.Mathlib.Omega.{arith}
-use borrow.Rule.Slice.PartMut.{mid_of}
 use lib.ListN.{length, take, replicate, length-replicate}
 use lib.Seq.{length-take-le}
 use Rattle.road.specs.declared.Refusal.{Refusal}
@@ -81,10 +80,8 @@ module _ (starts heads weights chosen starts' heads' weights' : List ℕ) (s t :
       PairFound.answered (none_of (D.pair_input starts heads weights chosen starts' heads' weights' s t) (lengths_fault asked) n) o
 
 -- the front of an array of zeros
-pub front_long : (n k : ℕ) → n ≤ k → length (mid_of 0 (n - 0) (replicate {A = ℕ} k 0)) ≡ n
-front_long n k h =
-    let e : n - 0 ≡ n = omega arith in
-    ap (λ (j : ℕ). length (take j (replicate {A = ℕ} k 0))) e ∙ length-take-le n (replicate {A = ℕ} k 0) (omega (arith, length-replicate {A = ℕ} k 0))
+pub front_long : (n k x : ℕ) → n ≤ k → n ≡ x → length (take n (replicate {A = ℕ} k 0)) ≡ x
+front_long n k x h e = length-take-le n (replicate {A = ℕ} k 0) (omega (arith, length-replicate {A = ℕ} k 0)) ∙ e
 
 take_numbers : (n k v : ℕ) → n ≤ k → take n (numbers v k) ≡ numbers v n
 take_numbers zero k v h = refl
@@ -92,6 +89,5 @@ take_numbers (suc n) zero v h = absurd (omega arith)
 take_numbers (suc n) (suc k) v h = ap (λ (l : List ℕ). v ∷ l) (take_numbers n k (suc v) (omega arith))
 
 -- the first numbers of some more
-pub front_numbers : (order : List ℕ) (n k : ℕ) → n ≤ k → order ≡ numbers 0 k → mid_of 0 (n - 0) order ≡ numbers 0 n
-front_numbers order n k h q =
-    let e : n - 0 ≡ n = omega arith in ap (λ (j : ℕ). take j order) e ∙ ap (take n) q ∙ take_numbers n k 0 h
+pub front_numbers : (order : List ℕ) (n k x : ℕ) → n ≤ k → n ≡ x → order ≡ numbers 0 k → take n order ≡ numbers 0 x
+front_numbers order n k x h e q = ap (take n) q ∙ take_numbers n k 0 h ∙ ap (numbers 0) e

@@ -6,11 +6,13 @@ use Prim.Native.Nat.{ℕ, zero, suc, ◌+◌, ◌-◌, ◌*◌, ◌≤◌, ◌<�
 use native.Mathlib.Decide.{dec_lt}
 use native.Mathlib.Omega.{arith}
 use lib.Dec.{eqb}
+use Rattle.std.proofs.lemmas.Bool.{ne_eqb}
 use lib.ListN.{length, get_or, take, length-append}
 use lib.Seq.{take-suc, take-length, length-take-le}
-use Rattle.hexlines.proofs.Growing.{wrote_none, wrote_then, wrote_long}
+use Rattle.hexlines.proofs.Growing.{writes_none, writes_then, writes_long}
+use Rattle.hexlines.specs.declared.Writer.{Writer}
 use Rattle.hexlines.specs.Outputs.{Out, arc, point, out_text, text_of}
-use Rattle.hexlines.specs.Writers.{Wrote}
+use Rattle.hexlines.specs.Writers.{Writes}
 use Rattle.maps.specs.Lists.{arc_lines, point_if, point_lines, row_lines}
 use Rattle.maps.specs.workings.Printing.{RowsFit}
 
@@ -23,21 +25,20 @@ text_one o = append-nil (out_text o)
 
 -- lines and then lines
 pub lines_then :
-    (l : List ℕ) (i : ℕ) (a : List Out) (m : List ℕ) (j : ℕ) (b : List Out) (p : List ℕ) (k : ℕ) → Wrote l i (text_of a) m j → Wrote m j (text_of b) p k →
-    Wrote l i (text_of (a ++ b)) p k
-lines_then l i a m j b p k x y =
-    subst (λ (t : List ℕ). Wrote l i t p k) (sym (text_append a b)) (wrote_then l i (text_of a) m j (text_of b) p k x y)
+    (w : Writer) (a : List Out) (v : Writer) (b : List Out) (u : Writer) → Writes w (text_of a) v → Writes v (text_of b) u → Writes w (text_of (a ++ b)) u
+lines_then w a v b u x y =
+    subst (λ (t : List ℕ). Writes w t u) (sym (text_append a b)) (writes_then w (text_of a) v (text_of b) u x y)
 
-pub line_one : (l : List ℕ) (i : ℕ) (o : Out) (m : List ℕ) (j : ℕ) → Wrote l i (out_text o) m j → Wrote l i (text_of (o ∷ [])) m j
-line_one l i o m j w = subst (λ (t : List ℕ). Wrote l i t m j) (sym (text_one o)) w
+pub line_one : (w : Writer) (o : Out) (v : Writer) → Writes w (out_text o) v → Writes w (text_of (o ∷ [])) v
+line_one w o v a = subst (λ (t : List ℕ). Writes w t v) (sym (text_one o)) a
 
 -- a node's line
-pub point_yes : (l : List ℕ) (i b v : ℕ) (m : List ℕ) (j : ℕ) → b ≡ 1 → Wrote l i (out_text (point v)) m j → Wrote l i (text_of (point_if (eqb b 1) v)) m j
-point_yes l i b v m j e w =
-    subst (λ (x : ℕ). Wrote l i (text_of (point_if (eqb x 1) v)) m j) (sym e) (line_one l i (point v) m j w)
+point_yes : (w : Writer) (b v : ℕ) (u : Writer) → b ≡ 1 → Writes w (out_text (point v)) u → Writes w (text_of (point_if (eqb b 1) v)) u
+point_yes w b v u e a =
+    subst (λ (x : ℕ). Writes w (text_of (point_if (eqb x 1) v)) u) (sym e) (line_one w (point v) u a)
 
-pub point_no : (l : List ℕ) (i b v : ℕ) → i ≤ length l → eqb b 1 ≡ false → Wrote l i (text_of (point_if (eqb b 1) v)) l i
-point_no l i b v h e = subst (λ (x : Bool). Wrote l i (text_of (point_if x v)) l i) (sym e) (wrote_none l i h)
+point_no : (w : Writer) (b v : ℕ) → w.at ≤ length w.buf.now → (b ≡ 1 → ⊥) → Writes w (text_of (point_if (eqb b 1) v)) w
+point_no w b v h e = subst (λ (x : Bool). Writes w (text_of (point_if x v)) w) (sym (ne_eqb b 1 e)) (writes_none w h)
 
 points_last : (w : ℕ) (l : List ℕ) (b : ℕ) → point_lines w (l ++ (b ∷ [])) ≡ point_lines w l ++ point_if (eqb b 1) (w + length l)
 points_last w [] b = let e : w ≡ w + 0 = omega arith in append-nil (point_if (eqb b 1) w) ∙ ap (point_if (eqb b 1)) e
@@ -51,24 +52,21 @@ if_short true v = omega arith
 if_short false v = omega arith
 
 -- the loop over the nodes
-pub record Points (l : List ℕ) (i : ℕ) (bytes : List ℕ) (v : ℕ) (m : List ℕ) (j : ℕ) : Type 0 where
+pub record Points (w : Writer) (bytes : List ℕ) (v : ℕ) (u : Writer) : Type 0 where
   pub within : v ≤ length bytes
-  pub short : j ≤ i + 7 * v
-  pub wrote : Wrote l i (text_of (point_lines 0 (take v bytes))) m j
+  pub short : u.at ≤ w.at + 7 * v
+  pub wrote : Writes w (text_of (point_lines 0 (take v bytes))) u
 
-module _ (l : List ℕ) (i : ℕ) (bytes : List ℕ) (h : i + 7 * length bytes ≤ length l) where
-  pub points_none : Points l i bytes 0 l i
-  points_none = record { within = omega arith; short = omega arith; wrote = wrote_none l i (omega arith) }
+module _ (w : Writer) (bytes : List ℕ) (h : w.at + 7 * length bytes ≤ length w.buf.now) where
+  pub points_none : Points w bytes 0 w
+  points_none = record { within = omega arith; short = omega arith; wrote = writes_none w (omega arith) }
 
-  module _ (v : ℕ) (m : List ℕ) (j : ℕ) (p : Points l i bytes v m j) where
-    pub points_long : length m ≡ length l
-    points_long = wrote_long l i (text_of (point_lines 0 (take v bytes))) m j p.wrote
+  module _ (v : ℕ) (u : Writer) (p : Points w bytes v u) (k : v < length bytes) where
+    pub points_room : u.at + 7 ≤ length u.buf.now
+    points_room = omega (arith, writes_long w (text_of (point_lines 0 (take v bytes))) u p.wrote, p.short)
 
-    pub points_room : v < length bytes → j + 7 ≤ length m
-    points_room k = omega (arith, points_long, p.short)
-
-    pub points_more : (m' : List ℕ) (j' : ℕ) → v < length bytes → Wrote m j (text_of (point_if (eqb (get_or bytes v 0) 1) v)) m' j' → Points l i bytes (v + 1) m' j'
-    points_more m' j' k w =
+    points_more : (u' : Writer) → Writes u (text_of (point_if (eqb (get_or bytes v 0) 1) v)) u' → Points w bytes (v + 1) u'
+    points_more u' a =
         let next : suc v ≡ v + 1 = omega arith in
         let size : 0 + length (take v bytes) ≡ v = omega (arith, length-take-le v bytes (omega arith)) in
         let lines : point_lines 0 (take (v + 1) bytes) ≡ point_lines 0 (take v bytes) ++ point_if (eqb (get_or bytes v 0) 1) v =
@@ -76,16 +74,22 @@ module _ (l : List ℕ) (i : ℕ) (bytes : List ℕ) (h : i + 7 * length bytes �
         ap (λ (x : ℕ). point_lines 0 (take v bytes) ++ point_if (eqb (get_or bytes v 0) 1) x) size in
         record {
           within = omega arith;
-          short = omega (arith, p.short, w.next, if_short (eqb (get_or bytes v 0) 1) v);
+          short = omega (arith, p.short, a.wrote.next, if_short (eqb (get_or bytes v 0) 1) v);
           wrote =
-              subst (λ (x : List Out). Wrote l i (text_of x) m' j') (sym lines)
-              (lines_then l i (point_lines 0 (take v bytes)) m j (point_if (eqb (get_or bytes v 0) 1) v) m' j' p.wrote w);
+              subst (λ (x : List Out). Writes w (text_of x) u') (sym lines)
+              (lines_then w (point_lines 0 (take v bytes)) u (point_if (eqb (get_or bytes v 0) 1) v) u' p.wrote a);
         }
 
-    pub points_end : length bytes ≤ v → Wrote l i (text_of (point_lines 0 bytes)) m j
-    points_end k =
-        let e : v ≡ length bytes = omega (arith, p.within) in
-        subst (λ (x : List ℕ). Wrote l i (text_of (point_lines 0 x)) m j) (ap (λ (y : ℕ). take y bytes) e ∙ take-length bytes) p.wrote
+    pub points_in : (u' : Writer) → get_or bytes v 0 ≡ 1 → Writes u (out_text (point v)) u' → Points w bytes (v + 1) u'
+    points_in u' e a = points_more u' (point_yes u (get_or bytes v 0) v u' e a)
+
+    pub points_out : (get_or bytes v 0 ≡ 1 → ⊥) → Points w bytes (v + 1) u
+    points_out e = points_more u (point_no u (get_or bytes v 0) v (omega (arith, points_room)) e)
+
+  pub points_end : (v : ℕ) (u : Writer) → length bytes ≤ v → Points w bytes v u → Writes w (text_of (point_lines 0 bytes)) u
+  points_end v u k p =
+      let e : v ≡ length bytes = omega (arith, p.within) in
+      subst (λ (x : List ℕ). Writes w (text_of (point_lines 0 x)) u) (ap (λ (y : ℕ). take y bytes) e ∙ take-length bytes) p.wrote
 
 -- one tail's row
 row_last : (heads weights : List ℕ) (u p c : ℕ) → row_lines heads weights u p (suc c) ≡ row_lines heads weights u p c ++ (arc u (get_or heads (p + c) 0) (get_or weights (p + c) 0) ∷ [])
@@ -102,29 +106,28 @@ row_long heads weights u p (suc c) =
     let t = row_long heads weights u (suc p) c in
     let o = length-append (out_text (arc u (get_or heads p 0) (get_or weights p 0))) (text_of (row_lines heads weights u (suc p) c)) in omega arith
 
-pub record Row (l : List ℕ) (i : ℕ) (heads weights : List ℕ) (u from p : ℕ) (m : List ℕ) (j : ℕ) : Type 0 where
+pub record Row (w : Writer) (heads weights : List ℕ) (u from p : ℕ) (w' : Writer) : Type 0 where
   pub begins : from ≤ p
-  pub wrote : Wrote l i (text_of (row_lines heads weights u from (p - from))) m j
+  pub wrote : Writes w (text_of (row_lines heads weights u from (p - from))) w'
 
-module _ (l : List ℕ) (i : ℕ) (heads weights : List ℕ) (u from to : ℕ) (h : i + 19 * (to - from) ≤ length l) where
-  pub row_none : Row l i heads weights u from from l i
-  row_none =
+module _ (w : Writer) (heads weights : List ℕ) (u from : ℕ) where
+  pub row_none : w.at ≤ length w.buf.now → Row w heads weights u from from w
+  row_none h =
       let e : 0 ≡ from - from = omega arith in
       record {
         begins = omega arith;
-        wrote = subst (λ (c : ℕ). Wrote l i (text_of (row_lines heads weights u from c)) l i) e (wrote_none l i (omega arith));
+        wrote = subst (λ (c : ℕ). Writes w (text_of (row_lines heads weights u from c)) w) e (writes_none w h);
       }
 
-  module _ (p : ℕ) (m : List ℕ) (j : ℕ) (r : Row l i heads weights u from p m j) where
-    pub row_kept : length m ≡ length l
-    row_kept = wrote_long l i (text_of (row_lines heads weights u from (p - from))) m j r.wrote
+  module _ (p : ℕ) (v : Writer) (r : Row w heads weights u from p v) where
+    pub row_room : (to : ℕ) → w.at + 19 * (to - from) ≤ length w.buf.now → p < to → v.at + 19 ≤ length v.buf.now
+    row_room to h k =
+        let b = r.begins in
+        let n = r.wrote.wrote.next in
+        omega (arith, writes_long w (text_of (row_lines heads weights u from (p - from))) v r.wrote, row_long heads weights u from (p - from))
 
-    pub row_room : p < to → j + 19 ≤ length m
-    row_room k = omega (arith, row_kept, r.begins, r.wrote.next, row_long heads weights u from (p - from))
-
-    pub row_more :
-        (m' : List ℕ) (j' : ℕ) → p < to → Wrote m j (out_text (arc u (get_or heads p 0) (get_or weights p 0))) m' j' → Row l i heads weights u from (p + 1) m' j'
-    row_more m' j' k w =
+    pub row_more : (v' : Writer) → Writes v (out_text (arc u (get_or heads p 0) (get_or weights p 0))) v' → Row w heads weights u from (p + 1) v'
+    row_more v' a =
         let b = r.begins in
         let e : suc (p - from) ≡ p + 1 - from = omega arith in
         let f : from + (p - from) ≡ p = omega arith in
@@ -134,21 +137,21 @@ module _ (l : List ℕ) (i : ℕ) (heads weights : List ℕ) (u from to : ℕ) (
         record {
           begins = omega arith;
           wrote =
-              subst (λ (x : List Out). Wrote l i (text_of x) m' j') (sym lines)
-              (lines_then l i (row_lines heads weights u from (p - from)) m j (arc u (get_or heads p 0) (get_or weights p 0) ∷ []) m' j' r.wrote
-              (line_one m j (arc u (get_or heads p 0) (get_or weights p 0)) m' j' w));
+              subst (λ (x : List Out). Writes w (text_of x) v') (sym lines)
+              (lines_then w (row_lines heads weights u from (p - from)) v (arc u (get_or heads p 0) (get_or weights p 0) ∷ []) v' r.wrote
+              (line_one v (arc u (get_or heads p 0) (get_or weights p 0)) v' a));
         }
 
-    pub row_end : to ≤ p → p ≤ to → Wrote l i (text_of (row_lines heads weights u from (to - from))) m j
-    row_end a b = let e : p ≡ to = omega arith in subst (λ (x : ℕ). Wrote l i (text_of (row_lines heads weights u from (x - from))) m j) e r.wrote
+    pub row_end : (to : ℕ) → to ≤ p → p ≤ to → Writes w (text_of (row_lines heads weights u from (to - from))) v
+    row_end to a b =
+        let e : p ≡ to = omega arith in subst (λ (x : ℕ). Writes w (text_of (row_lines heads weights u from (x - from))) v) e r.wrote
 
 -- all rows
-pub record Rows (l : List ℕ) (i : ℕ) (starts heads weights : List ℕ) (n u : ℕ) (m : List ℕ) (j : ℕ) : Type 0 where
-  pub within : u ≤ n
-  pub place : j ≡ i + 19 * get_or starts u 0
-  pub wrote : Wrote l i (text_of (arc_lines starts heads weights u)) m j
+pub record Rows (w : Writer) (starts heads weights : List ℕ) (u : ℕ) (v : Writer) : Type 0 where
+  pub place : v.at ≡ w.at + 19 * get_or starts u 0
+  pub wrote : Writes w (text_of (arc_lines starts heads weights u)) v
 
-module _ (l : List ℕ) (i : ℕ) (starts heads weights : List ℕ) (n : ℕ) (f : RowsFit starts heads weights n i (length l)) where
+module _ (w : Writer) (starts heads weights : List ℕ) (n : ℕ) (f : RowsFit starts heads weights n w.at (length w.buf.now)) where
   rises : (u v : ℕ) → u ≤ v → v ≤ n → get_or starts u 0 ≤ get_or starts v 0
   rises u zero a b = let e : u ≡ 0 = omega arith in subst (λ (x : ℕ). get_or starts x 0 ≤ get_or starts 0 0) (sym e) (omega arith)
   rises u (suc v) a b = by (dec_lt v u) (λ q. rises u v q (omega arith))
@@ -157,45 +160,36 @@ module _ (l : List ℕ) (i : ℕ) (starts heads weights : List ℕ) (n : ℕ) (f
       by (yes q) g = let e : u ≡ suc v = omega arith in subst (λ (x : ℕ). get_or starts x 0 ≤ get_or starts (suc v) 0) (sym e) (omega arith)
       by (no q) g = omega (arith, g (omega arith), f.rise v (omega arith))
 
-  pub rows_none : Rows l i starts heads weights n 0 l i
-  rows_none = record { within = omega arith; place = omega (arith, f.begins); wrote = wrote_none l i (omega (arith, f.space)) }
+  pub rows_none : Rows w starts heads weights 0 w
+  rows_none = record { place = omega (arith, f.begins); wrote = writes_none w (omega (arith, f.space)) }
 
-  module _ (u : ℕ) (m : List ℕ) (j : ℕ) (r : Rows l i starts heads weights n u m j) where
-    pub rows_kept : length m ≡ length l
-    rows_kept = wrote_long l i (text_of (arc_lines starts heads weights u)) m j r.wrote
+  module _ (u : ℕ) (v : Writer) (r : Rows w starts heads weights u v) (h : u < n) where
+    same : get_or starts (suc u) 0 ≡ get_or starts (u + 1) 0
+    same = let next : suc u ≡ u + 1 = omega arith in ap (λ (x : ℕ). get_or starts x 0) next
 
-    pub rows_ask :
-        (from to : ℕ) → u < n → from ≡ get_or starts u 0 → to ≡ get_or starts (u + 1) 0 →
-        (from ≤ to) × (to ≤ length heads) × (to ≤ length weights) × (j + 19 * (to - from) ≤ length m)
-    rows_ask from to h a b =
-        let next : suc u ≡ u + 1 = omega arith in
-        let same = ap (λ (x : ℕ). get_or starts x 0) next in
-        let one = f.rise u h in
-        let rest = rises (suc u) n (omega arith) (omega arith) in
-        let g = f.ends in
-        let k = f.alike in
-        let s = f.space in
-        let p = r.place in
-        let long = rows_kept in
-        (omega arith, omega arith, omega arith, omega arith)
+    module _ (from to : ℕ) (a : from ≡ get_or starts u 0) (b : to ≡ get_or starts (u + 1) 0) where
+      pub rows_ask : (from ≤ to) × (to ≤ length heads) × (to ≤ length weights) × (v.at + 19 * (to - from) ≤ length v.buf.now)
+      rows_ask =
+          let next = same in
+          let one = f.rise u h in
+          let rest = rises (suc u) n (omega arith) (omega arith) in
+          let g = f.ends in
+          let k = f.alike in
+          let s = f.space in
+          let p = r.place in
+          let long = writes_long w (text_of (arc_lines starts heads weights u)) v r.wrote in
+          (omega arith, omega arith, omega arith, omega arith)
 
-    pub rows_more :
-        (from to : ℕ) (m' : List ℕ) (j' : ℕ) → u < n → from ≡ get_or starts u 0 → to ≡ get_or starts (u + 1) 0 →
-        Wrote m j (text_of (row_lines heads weights u from (to - from))) m' j' → Rows l i starts heads weights n (u + 1) m' j'
-    rows_more from to m' j' h a b w =
-        let next : suc u ≡ u + 1 = omega arith in
-        let same = ap (λ (x : ℕ). get_or starts x 0) next in
-        let one = f.rise u h in
-        let lines : arc_lines starts heads weights (u + 1) ≡ arc_lines starts heads weights u ++ row_lines heads weights u from (to - from) =
-        ap (arc_lines starts heads weights) (sym next) ∙
-        (λ k. arc_lines starts heads weights u ++ row_lines heads weights u (sym a k) (sym (b ∙ sym same) k - sym a k)) in
-        record {
-          within = omega arith;
-          place = omega (arith, r.place, w.next, row_long heads weights u from (to - from));
-          wrote =
-              subst (λ (x : List Out). Wrote l i (text_of x) m' j') (sym lines)
-              (lines_then l i (arc_lines starts heads weights u) m j (row_lines heads weights u from (to - from)) m' j' r.wrote w);
-        }
-
-    pub rows_end : n ≤ u → Wrote l i (text_of (arc_lines starts heads weights n)) m j
-    rows_end h = let e : u ≡ n = omega (arith, r.within) in subst (λ (x : ℕ). Wrote l i (text_of (arc_lines starts heads weights x)) m j) e r.wrote
+      pub rows_more : (v' : Writer) → Writes v (text_of (row_lines heads weights u from (to - from))) v' → Rows w starts heads weights (u + 1) v'
+      rows_more v' q =
+          let next : suc u ≡ u + 1 = omega arith in
+          let one = f.rise u h in
+          let lines : arc_lines starts heads weights (u + 1) ≡ arc_lines starts heads weights u ++ row_lines heads weights u from (to - from) =
+          ap (arc_lines starts heads weights) (sym next) ∙
+          (λ k. arc_lines starts heads weights u ++ row_lines heads weights u (sym a k) (sym (b ∙ sym same) k - sym a k)) in
+          record {
+            place = omega (arith, r.place, q.wrote.next, row_long heads weights u from (to - from), same);
+            wrote =
+                subst (λ (x : List Out). Writes w (text_of x) v') (sym lines)
+                (lines_then w (arc_lines starts heads weights u) v (row_lines heads weights u from (to - from)) v' r.wrote q);
+          }

@@ -1,44 +1,24 @@
 // Ascending numbers, and the starts of the arcs read.
-ghost use Rattle.std.specs.Prelude.{◌≡◌, suc, ◌≤◌, ◌<◌, length, ltb};
-ghost use Rattle.road.specs.Counting.{bit, under};
+ghost use Rattle.std.specs.Prelude.{◌≡◌, ◌≤◌, count_by, length, ltb};
+ghost use Rattle.road.specs.Counting.{under};
 ghost use Rattle.maps.specs.Lists.{belows, numbers};
-
-use road::wide;
 
 // Fills the slice with 0, 1, 2 and so on.
 pub fn count_up(s: &mut [u32])
     requires { length s.old ≤ 4096 }
     ensures { s.new ≡ numbers 0 (length s.old) }
 {
-    let mut i = 0;
-    while i < s.len() {
-        s[i] = i as u32;
-        i += 1;
+    for (i, x) in s.iter_mut().enumerate() {
+        *x = i as u32;
     }
-}
-
-// 1 for a number below v, 0 for another.
-fn below(x: usize, v: usize) -> u32
-    ensures { (result ≡ bit (ltb x v)) × (result ≤ 1) }
-{
-    if x < v {
-        return 1;
-    }
-    0
 }
 
 // How many of the tails are below v.
 fn count_below(tails: &[u32], v: usize) -> u32
     requires { length tails.now ≤ 4096 }
-    ensures { result ≡ under v tails.now }
+    ensures { result ≡ count_by (λ x. ltb x v) tails.now }
 {
-    let mut count = 0;
-    let mut i = 0;
-    while i < tails.len() {
-        count += below(wide(tails[i]), v);
-        i += 1;
-    }
-    count
+    tails.iter().filter(|t| (**t as usize) < v).count() as u32
 }
 
 // The starts of arcs with these tails.
@@ -46,9 +26,7 @@ pub fn write_starts(tails: &[u32], starts: &mut [u32])
     requires { length tails.now ≤ 4096 }
     ensures { starts.new ≡ belows tails.now 0 (length starts.old) }
 {
-    let mut v = 0;
-    while v < starts.len() {
-        starts[v] = count_below(tails, v);
-        v += 1;
+    for (v, start) in starts.iter_mut().enumerate() {
+        *start = count_below(tails, v);
     }
 }

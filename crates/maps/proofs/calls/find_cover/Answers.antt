@@ -1,7 +1,32 @@
-use Rattle.road.specs.Roads.{nodes_of}
-use Rattle.maps.proofs.Founds.{cover_found, front_long, front_numbers}
 use native.Mathlib.Omega.{arith}
+use mathlib.Core.Path.{refl}
+use Rattle.maps.proofs.Founds.{cover_found, front_long, front_numbers}
 use Rattle.maps.proofs.calls.find_cover.Goals as goal
 
 pub returns : goal.returns
-returns c = cover_found c.args.starts.now _ _ _ _ _ _ _ (front_numbers _ (nodes_of c.args.starts.now) 512 (omega (arith, c.requires.graph.nodes)) c.count_up.ensures) (c.requires.bytes, (front_long _ 513 (omega (arith, c.requires.graph.nodes, c.requires.graph.some)), (front_long _ 2048 (omega (arith, c.requires.graph.arcs)), (front_long _ 2048 (omega (arith, c.requires.graph.arcs)), (front_long _ 512 (omega (arith, c.requires.graph.nodes)), (front_long _ 512 (omega (arith, c.requires.graph.nodes)), (front_long _ 512 (omega (arith, c.requires.graph.nodes)), tt))))))) c.cover.ensures
+returns c =
+    let few = c.requires.graph.nodes in
+    let n = c.node_count-n.ensures in
+    cover_found _ _ _ _ _ _ _ _ (front_numbers _ _ 512 _ (omega (arith, few, n)) n c.count_up.ensures) (
+      c.requires.bytes,
+      (
+        front_long _ 513 _ (omega (arith, few, c.requires.graph.some, n)) (omega (arith, n)),
+        (
+          front_long _ 2048 _ c.requires.graph.arcs refl,
+          (
+            front_long _ 2048 _ c.requires.graph.arcs refl,
+            (
+              front_long _ 512 _ (omega (arith, few, n)) n,
+              (
+                front_long _ 512 _ (omega (arith, few, n)) n,
+                (
+                  front_long _ 512 _ (omega (arith, few, n)) n,
+                  tt,
+                ),
+              ),
+            ),
+          ),
+        ),
+      ),
+    )
+    c.cover.ensures.outcome
