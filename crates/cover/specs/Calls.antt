@@ -33,11 +33,12 @@ areas cover starts heads weights marks pieces sizes =
 
 -- and from the work as the call is lent it
 abbrev pub areas_of : List ℕ → Work → Areas
-areas_of cover w = areas cover w.back.starts.now w.back.heads.now w.back.weights.now w.marks.now w.pieces.now w.sizes.now
+areas_of cover w = areas cover w.back.now.starts.now w.back.now.heads.now w.back.now.weights.now w.marks.now w.pieces.now w.sizes.now
 
 -- the work's slices are the same slices, whatever they hold
 pub record SameWork (old new : Work) : Type 0 where
-  pub back : SameSlices old.back new.back
+  pub back : new.back.ghost_name ≡ old.back.ghost_name
+  pub slices : SameSlices old.back.now new.back.now
   pub marks : new.marks.ghost_name ≡ old.marks.ghost_name
   pub pieces : new.pieces.ghost_name ≡ old.pieces.ghost_name
   pub sizes : new.sizes.ghost_name ≡ old.sizes.ghost_name
