@@ -2,7 +2,7 @@
 ghost use Rattle.std.specs.Prelude.{◌≡◌, ◌+◌, ◌≤◌, ◌<◌, length, get_or};
 ghost use Rattle.road.specs.Roads.{nodes_of, road};
 ghost use Rattle.search.specs.Lent.{SameSlices};
-ghost use Rattle.search.specs.workings.Lent.{GoingOf, HeapOf};
+ghost use Rattle.search.specs.workings.Lent.{GoingOf, HeapBy, HeapOf};
 ghost use Rattle.search.specs.workings.Rows.{Asks, Row};
 ghost use Rattle.search.specs.workings.States.{All, Leaves, Offered, Upto, mass};
 
@@ -12,8 +12,7 @@ use road::Graph;
 
 // Offers the label x to v, which is taken where v has none or a larger one; then v waits.
 fn offer(labels: &mut [u64], queue: &mut Queue, v: usize, x: u64)
-    requires heap { HeapOf queue.old }
-    requires labels_len { length labels.old ≡ length queue.old.places.now }
+    requires heap { HeapBy labels.old queue.old }
     requires v_in_bounds { v < length queue.old.places.now }
     ensures heap_2 { HeapOf queue.new }
     ensures offered { Offered v x labels.old queue.old.places.now queue.old.waiting labels.new queue.new.places.now queue.new.waiting }
