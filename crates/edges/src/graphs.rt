@@ -1,7 +1,7 @@
 // Graphs of 4,096 nodes for the search.
-ghost use Rattle.std.specs.Prelude.{◌≤◌, ◌<◌};
+ghost use Rattle.std.specs.Prelude.{◌≡◌, ◌≤◌, ◌<◌, length};
 
-use road::wide;
+use road::Graph;
 
 #[derive(Clone, Copy)]
 pub enum Case {
@@ -15,19 +15,20 @@ pub enum Case {
     Fan,
 }
 
-// What a node may have: no arc, or one with this head and weight.
-#[derive(Clone, Copy)]
-enum Slot {
-    Empty,
-    Arc(u32, u32),
+// A graph of a case, and a byte for each node, 1 where it is blocked.
+#[derive(Drop)]
+pub struct Maze {
+    starts: [u32; 4097],
+    heads: [u32; 16384],
+    weights: [u32; 16384],
+    arcs: usize,
+    pub blocked: [u8; 4096],
+    ghost room: { arcs ≤ 16384 },
 }
 
-// An arc, if it is there. Heads are counted round the nodes.
-fn arc_if(there: bool, head: u32, weight: u32) -> Slot {
-    if there {
-        return Slot::Arc(head % 4096, weight);
-    }
-    Slot::Empty
+// The head and the weight of an arc, if it is there. Heads are counted round the nodes.
+fn arc_if(there: bool, head: u32, weight: u32) -> Option<(u32, u32)> {
+    there.then_some((head % 4096, weight))
 }
 
 // A number below 1,000 that follows from x and looks like none.
@@ -36,7 +37,7 @@ fn noise(x: u32) -> u32 {
 }
 
 // A grid of 64 by 64, each node joined to its neighbours: above, left, right, below.
-fn grid(v: u32, j: u32) -> Slot
+fn grid(v: u32, j: u32) -> Option<(u32, u32)>
     requires v_bound { v < 4096 }
     requires j_bound { j < 4096 }
 {
@@ -52,30 +53,32 @@ fn grid(v: u32, j: u32) -> Slot
 // Each even node leads to the next even one, by an arc of weight 2^30, 2^29 and so on, and by way of
 // the odd node between them at 0. A search that takes the node labelled last goes over all that
 // follows once more at each even node: twice as often for each of them.
-fn diamonds(v: u32, j: u32) -> Slot {
+fn diamonds(v: u32, j: u32) -> Option<(u32, u32)> {
     if 62 <= v {
-        return Slot::Empty;
+        return None;
     }
     if j == 0 {
-        return Slot::Arc(v + 1, 0);
+        return Some((v + 1, 0));
     }
     arc_if(v % 2 == 0, v + 2, 1073741824 >> (v / 2))
 }
 
 // From node 0 to each node v at 1,000 v, and from each other node to the next at 1. A search that
 // takes the node that waits longest labels each node again for every node before it.
-fn fan(v: u32, j: u32) -> Slot
+fn fan(v: u32, j: u32) -> Option<(u32, u32)>
     requires v_bound { v < 4096 }
     requires j_bound { j < 4096 }
 {
     if v == 0 {
-        return Slot::Arc(j + 1, 1000 * (j + 1));
+        return Some((j + 1, 1000 * (j + 1)));
     }
     arc_if(v < 4095, v + 1, 1)
 }
 
 // How many arcs v may have.
-fn slots(case: Case, v: u32) -> u32 {
+fn slots(case: Case, v: u32) -> u32
+    ensures { result < 4096 }
+{
     match case {
         Case::Grid | Case::GridColumn | Case::GridSource => 4,
         Case::Diamonds => 2,
@@ -85,12 +88,12 @@ fn slots(case: Case, v: u32) -> u32 {
 }
 
 // The j-th arc that v may have, heads ascending.
-fn arc_of(case: Case, v: u32, j: u32) -> Slot
+fn arc_of(case: Case, v: u32, j: u32) -> Option<(u32, u32)>
     requires v_bound { v < 4096 }
     requires j_bound { j < 4096 }
 {
     match case {
-        Case::Halves => arc_if((v < 4095) & (v != 99), v + 1, 3),
+        Case::Halves => arc_if(v < 4095 && v != 99, v + 1, 3),
         Case::Grid | Case::GridColumn | Case::GridSource => grid(v, j),
         Case::Diamonds => diamonds(v, j),
         Case::Fan => fan(v, j),
@@ -108,56 +111,44 @@ fn shut(case: Case, v: u32) -> bool {
     }
 }
 
-fn mark(there: bool) -> u8 {
-    if there { 1 } else { 0 }
-}
-
-// Puts the arc at the place, where there is one; gives the next place.
-fn put(slot: Slot, heads: &mut [u32; 16384], weights: &mut [u32; 16384], at: u32) -> u32
-    requires { at ≤ 16384 }
-    ensures { result ≤ 16384 }
-{
-    let Slot::Arc(head, weight) = slot else {
-        return at;
-    };
-    if at == 16384 {
-        return at;
+impl Maze {
+    pub fn new(case: Case) -> Maze {
+        let mut starts = [0; 4097];
+        let mut heads = [0; 16384];
+        let mut weights = [0; 16384];
+        let mut blocked = [0; 4096];
+        let mut arcs = 0;
+        for v in 0..4096 {
+            for j in 0..slots(case, v) {
+                if arcs == 16384 {
+                    break;
+                }
+                if let Some((head, weight)) = arc_of(case, v, j) {
+                    heads[arcs] = head;
+                    weights[arcs] = weight;
+                    arcs += 1;
+                }
+            }
+            starts[v as usize + 1] = arcs as u32;
+            blocked[v as usize] = u8::from(shut(case, v));
+        }
+        Maze {
+            starts,
+            heads,
+            weights,
+            arcs,
+            blocked,
+        }
     }
-    heads[wide(at)] = head;
-    weights[wide(at)] = weight;
-    at + 1
-}
 
-// Slot i is the one of number i % 4096 of node i / 4096. The next: of this node, or the first of the
-// node that follows.
-fn next(case: Case, i: u32) -> u32
-    requires { i < 16777216 }
-    ensures { (i < result) × (result ≤ 16777216) }
-{
-    if i % 4096 + 1 < slots(case, i / 4096) {
-        return i + 1;
+    // The graph without the room that it leaves.
+    pub fn graph(&self) -> Graph<'_>
+        ensures { length result.starts.now ≡ 4097 }
+    {
+        Graph {
+            starts: &self.starts,
+            heads: &self.heads[0..self.arcs],
+            weights: &self.weights[0..self.arcs],
+        }
     }
-    (i / 4096 + 1) * 4096
-}
-
-// Writes the graph and its blocked nodes; gives the count of its arcs.
-pub fn fill(
-    case: Case,
-    starts: &mut [u32; 4097],
-    heads: &mut [u32; 16384],
-    weights: &mut [u32; 16384],
-    blocked: &mut [u8; 4096],
-) -> usize
-    ensures { result ≤ 16384 }
-{
-    let mut at = 0;
-    let mut i = 0;
-    while i < 16777216 {
-        let v = i / 4096;
-        at = put(arc_of(case, v, i % 4096), heads, weights, at);
-        starts[wide(v) + 1] = at;
-        blocked[wide(v)] = mark(shut(case, v));
-        i = next(case, i);
-    }
-    wide(at)
 }

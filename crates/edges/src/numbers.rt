@@ -1,73 +1,79 @@
 // Numbers of inner functions.
-use crate::rules::tell;
+use crate::rules::check;
 use overlay::check_overlay;
-use printing::number;
-use road::{Limits, NodeCount, Refusal, arcs_on_path, node_count};
+use road::{Graph, Limits, NodeCount, Refusal, arcs_on_path};
 use std::io;
 
-fn most(rt: &impl Print, label: &[u8], limits: Limits) -> io::Result<()> {
-    rt.write_all(label)?;
-    number(rt, b" arcs ", limits.arcs.0 as u64)?;
-    number(rt, b" weight ", limits.weight as u64)?;
-    rt.write_all(b"\n")
+fn most(rt: &impl Print, label: &str, limits: Limits) -> io::Result<()> {
+    println!(rt; "{label}: arcs {} weight {}", limits.arcs.0, limits.weight)
 }
 
 pub fn limits(rt: &impl Print) -> io::Result<()> {
-    most(rt, b"road limits:", road::road_limits())?;
-    most(rt, b"overlay limits:", road::overlay_limits())
-}
-
-fn told(rt: &impl Print, why: Refusal) -> io::Result<()> {
-    number(rt, b" ", road::number(why) as u64)
+    most(rt, "road limits", road::road_limits())?;
+    most(rt, "overlay limits", road::overlay_limits())
 }
 
 pub fn refusals(rt: &impl Print) -> io::Result<()> {
-    rt.write_all(b"refusals:")?;
-    told(rt, Refusal::Sizes)?;
-    told(rt, Refusal::Starts)?;
-    told(rt, Refusal::Arcs)?;
-    told(rt, Refusal::K)?;
-    told(rt, Refusal::Order)?;
-    told(rt, Refusal::Set)?;
-    told(rt, Refusal::Overlay)?;
-    told(rt, Refusal::Node)?;
-    told(rt, Refusal::Outside)?;
-    told(rt, Refusal::Drive)?;
-    told(rt, Refusal::Lengths)?;
-    told(rt, Refusal::Room)?;
-    told(rt, Refusal::Line)?;
-    rt.write_all(b"\n")
-}
-
-fn arcs(rt: &impl Print, k: usize) -> io::Result<()> {
-    number(rt, b" ", arcs_on_path(NodeCount(k)).0 as u64)
+    print!(rt; "refusals:")?;
+    for why in [
+        Refusal::Sizes,
+        Refusal::Starts,
+        Refusal::Arcs,
+        Refusal::K,
+        Refusal::Order,
+        Refusal::Set,
+        Refusal::Overlay,
+        Refusal::Node,
+        Refusal::Outside,
+        Refusal::Drive,
+        Refusal::Lengths,
+        Refusal::Room,
+        Refusal::Line,
+    ] {
+        print!(rt; " {}", u8::from(why))?;
+    }
+    println!(rt; "")
 }
 
 fn nodes(rt: &impl Print, starts: &[u32]) -> io::Result<()> {
-    number(rt, b" ", node_count(starts).0 as u64)
+    let graph = Graph {
+        starts,
+        heads: &[],
+        weights: &[],
+    };
+    print!(rt; " {}", graph.node_count().0)
 }
 
 pub fn counts(rt: &impl Print) -> io::Result<()> {
-    rt.write_all(b"arcs on paths of 0, 1, 2 and 32 nodes:")?;
-    arcs(rt, 0)?;
-    arcs(rt, 1)?;
-    arcs(rt, 2)?;
-    arcs(rt, 32)?;
-    rt.write_all(b"\nnodes of 0, 1, 2, 4097 and 4098 starts:")?;
+    print!(rt; "arcs on paths of 0, 1, 2 and 32 nodes:")?;
+    for k in [0, 1, 2, 32] {
+        print!(rt; " {}", arcs_on_path(NodeCount(k)).0)?;
+    }
+    print!(rt; "\nnodes of 0, 1, 2, 4097 and 4098 starts:")?;
     nodes(rt, &[])?;
     nodes(rt, &[0; 1])?;
     nodes(rt, &[0; 2])?;
     nodes(rt, &[0; 4097])?;
     nodes(rt, &[0; 4098])?;
-    rt.write_all(b"\n")
+    println!(rt; "")
 }
 
 // Check 7 by itself: an arc from 0 to 1, whose byte in the set is 2; and no set, so no node.
 pub fn overlays(rt: &impl Print) -> io::Result<()> {
-    tell(
+    let one_arc = Graph {
+        starts: &[0, 1, 1],
+        heads: &[1],
+        weights: &[1],
+    };
+    let no_node = Graph {
+        starts: &[0],
+        heads: &[],
+        weights: &[],
+    };
+    check(
         rt,
-        b"overlay, a byte of 2 in its set:",
-        check_overlay(&[1, 2], &[0, 1, 1], &[1], &[1]),
+        "overlay, a byte of 2 in its set",
+        check_overlay(&[1, 2], &one_arc),
     )?;
-    tell(rt, b"overlay, no set:", check_overlay(&[], &[0], &[], &[]))
+    check(rt, "overlay, no set", check_overlay(&[], &no_node))
 }

@@ -1,16 +1,18 @@
-// Numbers and refusals, printed.
+// What the programs print alike: the answer of a call.
 #![tactic(auto)]
 
 use road::Refusal;
+use std::fmt::Display;
 use std::io;
 
-// The label and the number.
-pub fn number(rt: &impl Print, label: &[u8], n: u64) -> io::Result<()> {
-    rt.write_all(label)?;
-    print!(rt; "{n}")
-}
-
-// The refusal's number.
-pub fn refused(rt: &impl Print, why: Refusal) -> io::Result<()> {
-    number(rt, b" refused ", road::number(why) as u64)
+// The answer after its label, or why the call refuses.
+pub fn tell<T: Display + Drop>(
+    rt: &impl Print,
+    label: &str,
+    answer: Result<T, Refusal>,
+) -> io::Result<()> {
+    match answer {
+        Ok(value) => print!(rt; " {label}{value}"),
+        Err(why) => print!(rt; " {why}"),
+    }
 }
