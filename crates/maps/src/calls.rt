@@ -26,12 +26,13 @@ pub fn find_cover(graph: &Graph, k: NodeCount, set: &mut [u8]) -> Result<NodeCou
     let mut pieces = [0u32; 512];
     let mut sizes = [0u32; 512];
     count_up(&mut order);
+    let mut back = GraphMut {
+        starts: &mut starts[..n + 1],
+        heads: &mut heads[..m],
+        weights: &mut weights[..m],
+    };
     let mut work = CoverWork {
-        back: GraphMut {
-            starts: &mut starts[..n + 1],
-            heads: &mut heads[..m],
-            weights: &mut weights[..m],
-        },
+        back: &mut back,
         marks: &mut marks[..n],
         pieces: &mut pieces[..n],
         sizes: &mut sizes[..n],
