@@ -4,7 +4,7 @@ ghost use Rattle.road.specs.Roads.{nodes_of};
 ghost use Rattle.overlay.specs.Overlays.{Arcs, ArcsInAll};
 ghost use Rattle.overlay.specs.workings.Lending.{QueueStays, road_of, SearchingOf};
 
-use crate::rows::count_row;
+use crate::Row;
 use road::{ArcCount, Graph};
 use search::{Queue, search};
 
@@ -27,8 +27,8 @@ fn count_tail(
         return count;
     }
     search(graph, set, tail, labels, queue);
-    let row = count_row(set, labels, tail);
-    ArcCount(count.0 + row.0)
+    let row = Row { set, labels, tail };
+    ArcCount(count.0 + row.count().0)
 }
 
 // Adds up the arcs of all tails.

@@ -7,6 +7,8 @@ mod counting;
 mod rows;
 mod writing;
 
+ghost use Rattle.std.specs.Prelude.{◌≡◌, length};
+
 pub use calls::overlay;
 pub use checking::check_overlay;
 
@@ -17,4 +19,13 @@ pub struct Work<'a> {
     pub heap: &'a mut [u32],
     pub places: &'a mut [u32],
     pub touched: &'a mut [u32],
+}
+
+// One tail's row, once the search from the tail has labelled the nodes that it reaches.
+#[derive(Clone, Copy)]
+struct Row<'a> {
+    set: &'a [u8],
+    labels: &'a [u64],
+    tail: usize,
+    ghost labelled: { length labels.now ≡ length set.now },
 }

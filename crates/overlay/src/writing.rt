@@ -6,7 +6,7 @@ ghost use Rattle.overlay.specs.Overlays.{Arcs};
 ghost use Rattle.overlay.specs.workings.Lending.{QueueStays, road_of, SearchingOf};
 ghost use Rattle.overlay.specs.workings.Writing.{Building, Enough, Light, RowWritten};
 
-use crate::rows::write_row;
+use crate::Row;
 use road::{ArcCount, Graph, GraphMut};
 use search::{Queue, search};
 
@@ -36,14 +36,9 @@ fn write_tail(
     }
     search(graph, set, tail, labels, queue);
     let from = count.0;
-    let row = write_row(
-        set,
-        labels,
-        tail,
-        &mut rooms.heads[from..],
-        &mut rooms.weights[from..],
-    );
-    ArcCount(from + row.0)
+    let row = Row { set, labels, tail };
+    let arcs = row.write(&mut rooms.heads[from..], &mut rooms.weights[from..]);
+    ArcCount(from + arcs.0)
 }
 
 // Writes all rows in order.

@@ -6,7 +6,7 @@ pub returns-then-set-tail-eq0-clause-arcs_2 : goal.returns-then-set-tail-eq0-cla
 returns-then-set-tail-eq0-clause-arcs_2 c = tail_skipped _ _ _ _ _ _ _ c.requires.searching _ c.requires.tail_bound _ c.requires.arcs c.if-set-tail-eq0.true
 
 pub overflow_add-result : goal.overflow_add-result
-overflow_add-result c = omega (arith, tail_fits _ _ _ _ _ _ _ c.requires.searching _ c.requires.tail_bound _ c.requires.arcs c.if-set-tail-eq0.false _ c.search.ensures.row _ c.count_row-row.ensures)
+overflow_add-result c = omega (arith, tail_fits _ _ _ _ _ _ _ c.requires.searching _ c.requires.tail_bound _ c.requires.arcs c.if-set-tail-eq0.false _ c.search.ensures.row _ c.count.ensures)
 
 pub returns-clause-arcs_2 : goal.returns-clause-arcs_2
-returns-clause-arcs_2 c = tail_counted _ _ _ _ _ _ _ c.requires.searching _ c.requires.tail_bound _ c.requires.arcs c.if-set-tail-eq0.false _ c.search.ensures.row _ c.count_row-row.ensures
+returns-clause-arcs_2 c = tail_counted _ _ _ _ _ _ _ c.requires.searching _ c.requires.tail_bound _ c.requires.arcs c.if-set-tail-eq0.false _ c.search.ensures.row _ c.count.ensures

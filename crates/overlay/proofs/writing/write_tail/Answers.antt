@@ -8,29 +8,29 @@ returns-then-set-tail-eq0-clause-row_written c = tail_left _ _ _ _ _ _ _ c.requi
 pub offset_bounds-rooms-from : goal.offset_bounds-rooms-from
 offset_bounds-rooms-from c = omega (arith, counts_fit _ _ _ _ _ _ _ c.requires.searching _ _ c.requires.arcs (omega (arith, c.requires.tail_bound)))
 
-pub slice_bounds-write_row-count : goal.slice_bounds-write_row-count
-slice_bounds-write_row-count c = behind _ _ _ _ _ _ _ c.requires.searching _ c.requires.tail_bound _ c.requires.arcs c.if-set-tail-eq0.false _ c.search.ensures.row c.requires.light c.args.rooms.now.heads.now c.args.rooms.now.weights.now c.requires.enough c.requires.over_weights_len
+pub slice_bounds-write-count : goal.slice_bounds-write-count
+slice_bounds-write-count c = behind _ _ _ _ _ _ _ c.requires.searching _ c.requires.tail_bound _ c.requires.arcs c.if-set-tail-eq0.false _ c.search.ensures.row c.requires.light c.args.rooms.now.heads.now c.args.rooms.now.weights.now c.requires.enough c.requires.over_weights_len
 
-pub slice_bounds-write_row-start : goal.slice_bounds-write_row-start
-slice_bounds-write_row-start c = behind _ _ _ _ _ _ _ c.requires.searching _ c.requires.tail_bound _ c.requires.arcs c.if-set-tail-eq0.false _ c.search.ensures.row c.requires.light c.args.rooms.now.heads.now c.args.rooms.now.weights.now c.requires.enough c.requires.over_weights_len
+pub slice_bounds-write-start : goal.slice_bounds-write-start
+slice_bounds-write-start c = behind _ _ _ _ _ _ _ c.requires.searching _ c.requires.tail_bound _ c.requires.arcs c.if-set-tail-eq0.false _ c.search.ensures.row c.requires.light c.args.rooms.now.heads.now c.args.rooms.now.weights.now c.requires.enough c.requires.over_weights_len
 
 pub offset_bounds-rooms-from-2 : goal.offset_bounds-rooms-from-2
 offset_bounds-rooms-from-2 c = omega (arith, counts_fit _ _ _ _ _ _ _ c.requires.searching _ _ c.requires.arcs (omega (arith, c.requires.tail_bound)))
 
-pub slice_bounds-write_row-count-2 : goal.slice_bounds-write_row-count-2
-slice_bounds-write_row-count-2 c = omega (arith, behind _ _ _ _ _ _ _ c.requires.searching _ c.requires.tail_bound _ c.requires.arcs c.if-set-tail-eq0.false _ c.search.ensures.row c.requires.light c.args.rooms.now.heads.now c.args.rooms.now.weights.now c.requires.enough c.requires.over_weights_len, c.requires.over_weights_len)
+pub slice_bounds-write-count-2 : goal.slice_bounds-write-count-2
+slice_bounds-write-count-2 c = omega (arith, behind _ _ _ _ _ _ _ c.requires.searching _ c.requires.tail_bound _ c.requires.arcs c.if-set-tail-eq0.false _ c.search.ensures.row c.requires.light c.args.rooms.now.heads.now c.args.rooms.now.weights.now c.requires.enough c.requires.over_weights_len, c.requires.over_weights_len)
 
-pub slice_bounds-write_row-start-2 : goal.slice_bounds-write_row-start-2
-slice_bounds-write_row-start-2 c = as_far _ _ _ (behind _ _ _ _ _ _ _ c.requires.searching _ c.requires.tail_bound _ c.requires.arcs c.if-set-tail-eq0.false _ c.search.ensures.row c.requires.light c.args.rooms.now.heads.now c.args.rooms.now.weights.now c.requires.enough c.requires.over_weights_len) c.requires.over_weights_len
+pub slice_bounds-write-start-2 : goal.slice_bounds-write-start-2
+slice_bounds-write-start-2 c = as_far _ _ _ (behind _ _ _ _ _ _ _ c.requires.searching _ c.requires.tail_bound _ c.requires.arcs c.if-set-tail-eq0.false _ c.search.ensures.row c.requires.light c.args.rooms.now.heads.now c.args.rooms.now.weights.now c.requires.enough c.requires.over_weights_len) c.requires.over_weights_len
 
-pub write_row-row-requires-clause-fits : goal.write_row-row-requires-clause-fits
-write_row-row-requires-clause-fits c = row_fits _ _ _ _ _ _ _ c.requires.searching _ c.requires.tail_bound _ c.requires.arcs c.if-set-tail-eq0.false _ c.search.ensures.row c.requires.light c.args.rooms.now.heads.now c.args.rooms.now.weights.now c.requires.enough c.requires.over_weights_len
+pub write-arcs-requires-clause-fits : goal.write-arcs-requires-clause-fits
+write-arcs-requires-clause-fits c = row_fits _ _ _ _ _ _ _ c.requires.searching _ c.requires.tail_bound _ c.requires.arcs c.if-set-tail-eq0.false _ c.search.ensures.row c.requires.light c.args.rooms.now.heads.now c.args.rooms.now.weights.now c.requires.enough c.requires.over_weights_len
 
-pub write_row-row-requires-clause-row_room : goal.write_row-row-requires-clause-row_room
-write_row-row-requires-clause-row_room c = row_room _ _ _ _ _ _ _ c.requires.searching _ c.requires.tail_bound _ c.requires.arcs c.if-set-tail-eq0.false _ c.search.ensures.row c.requires.light c.args.rooms.now.heads.now c.args.rooms.now.weights.now c.requires.enough c.requires.over_weights_len
+pub write-arcs-requires-clause-row_room : goal.write-arcs-requires-clause-row_room
+write-arcs-requires-clause-row_room c = row_room _ _ _ _ _ _ _ c.requires.searching _ c.requires.tail_bound _ c.requires.arcs c.if-set-tail-eq0.false _ c.search.ensures.row c.requires.light c.args.rooms.now.heads.now c.args.rooms.now.weights.now c.requires.enough c.requires.over_weights_len
 
 pub overflow_add-result : goal.overflow_add-result
-overflow_add-result c = omega (arith, tail_fits _ _ _ _ _ _ _ c.requires.searching _ c.requires.tail_bound _ c.requires.arcs c.if-set-tail-eq0.false _ c.search.ensures.row _ c.write_row-row.ensures.number)
+overflow_add-result c = omega (arith, tail_fits _ _ _ _ _ _ _ c.requires.searching _ c.requires.tail_bound _ c.requires.arcs c.if-set-tail-eq0.false _ c.search.ensures.row _ c.write-arcs.ensures.number)
 
 pub returns-clause-row_written : goal.returns-clause-row_written
-returns-clause-row_written c = tail_written _ _ _ _ _ _ _ c.requires.searching _ c.requires.tail_bound _ c.requires.arcs c.if-set-tail-eq0.false _ c.search.ensures.row c.requires.light c.args.rooms.now.heads.now c.args.rooms.now.weights.now c.requires.enough c.requires.over_weights_len _ _ _ c.write_row-row.ensures
+returns-clause-row_written c = tail_written _ _ _ _ _ _ _ c.requires.searching _ c.requires.tail_bound _ c.requires.arcs c.if-set-tail-eq0.false _ c.search.ensures.row c.requires.light c.args.rooms.now.heads.now c.args.rooms.now.weights.now c.requires.enough c.requires.over_weights_len _ _ _ c.write-arcs.ensures

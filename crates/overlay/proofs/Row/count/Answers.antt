@@ -1,8 +1,8 @@
 use Rattle.overlay.proofs.Numbers.{number_few, number_more, number_past}
 use native.Mathlib.Omega.{arith}
 use Rattle.overlay.specs.Numbers.{Number}
-use Rattle.overlay.proofs.rows.count_row.Goals.{then-is_head, else-is_head}
-use Rattle.overlay.proofs.rows.count_row.Goals as goal
+use Rattle.overlay.proofs.Row.count.Goals.{then-is_head, else-is_head}
+use Rattle.overlay.proofs.Row.count.Goals as goal
 
 pub loop-v-init : goal.loop-v-init
 loop-v-init c = Number.none

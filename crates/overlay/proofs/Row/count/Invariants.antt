@@ -1,6 +1,6 @@
 use Rattle.overlay.specs.workings.Writing.{Found}
 use Rattle.overlay.specs.Numbers.{Number}
-use Rattle.overlay.proofs.rows.count_row.Given as goal
+use Rattle.overlay.proofs.Row.count.Given as goal
 
 abbrev pub invariant-loop-v : goal.invariant-loop-v
-invariant-loop-v l = Number (Found l.set l.labels l.tail) l.v l.count
+invariant-loop-v l = Number (Found l.self.set.now l.self.labels.now l.self.tail) l.v l.count

@@ -2,7 +2,7 @@ use native.Mathlib.Omega.{arith}
 use Rattle.overlay.proofs.Locals.{room_left}
 use Rattle.overlay.proofs.Written.{wrote_none, wrote_more}
 use borrow.Author.Rules.{rules}
-use Rattle.overlay.proofs.rows.write_row.Goals as goal
+use Rattle.overlay.proofs.Row.write.Goals as goal
 
 pub loop-v-init : goal.loop-v-init
 loop-v-init c = wrote_none _ _ _ _ _
@@ -12,7 +12,7 @@ write_arc-count-requires c =
     record {
       node = search rules;
       few = c.requires.set_len_bound;
-      labelled = c.requires.labels_len;
+      labelled = c.args.self.now.labelled;
       fits = c.requires.fits;
       free = λ f. omega (arith, room_left _ _ _ _ _ _ c.requires.row_room c.loop-v-test.true c.loop-v.invariant.number f, c.loop-v.invariant.heads_long);
       alike = omega (arith, c.loop-v.invariant.heads_long, c.loop-v.invariant.weights_long, c.requires.weights_len);
