@@ -13,7 +13,7 @@ pub fn cover(rt: &impl Print, graph: &Graph, k: usize, order: &[u32]) -> io::Res
     let m = graph.heads.len().min(8);
     let mut chosen = [7; 8];
     let mut work = Work {
-        back: GraphMut {
+        back: &mut GraphMut {
             starts: &mut [7; 8][0..s],
             heads: &mut [7; 8][0..m],
             weights: &mut [7; 8][0..m],
