@@ -47,7 +47,7 @@ fn clear_room(back: &mut GraphMut)
 }
 
 // Fills the work with zeros.
-fn clear(work: &mut Work)
+fn clear_work(work: &mut Work)
     ensures cleared { Cleared work.old work.new }
     ensures same_work { SameWork work.old work.new }
 {
@@ -73,7 +73,7 @@ fn build(graph: &Graph, k: NodeCount, order: &[u32], cover: &mut [u8], work: &mu
         k,
     };
     prune(&roads, order, cover, work.pieces, work.sizes);
-    clear(work);
+    clear_work(work);
     count_ones(cover)
 }
 
