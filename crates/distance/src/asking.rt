@@ -5,10 +5,10 @@ ghost use Rattle.paths.specs.Least.{Told};
 ghost use Rattle.road.specs.Lent.{SameSlices};
 ghost use Rattle.road.specs.Roads.{nodes_of, road};
 ghost use Rattle.distance.specs.Calls.{hand_cleared, pair_cleared};
-ghost use Rattle.distance.specs.Lent.{SameHand, hand_held, parts_held};
+ghost use Rattle.distance.specs.Lent.{SameHand, hand_held};
 ghost use Rattle.distance.specs.Questions.{AnyPair, Handheld};
 ghost use Rattle.distance.specs.workings.Labels.{Leaves, RowsAsked, RowsFound, Searchable, label_of};
-ghost use Rattle.distance.specs.workings.Ready.{HandReady, PairReady};
+ghost use Rattle.distance.specs.workings.Ready.{HandReady, PairReady, parts_held};
 ghost use Rattle.search.specs.workings.Rows.{Row};
 
 use crate::sums::{lesser, shown};
@@ -106,6 +106,8 @@ fn find_rows(
 }
 
 // The least of the direct way and of the ways through the overlay.
+// Its work comes in parts: tried as one struct, the proof didn't close, since the two rows are read
+// while the rest of it is written.
 pub fn ask_pair(
     graph: &Graph,
     set: &[u8],

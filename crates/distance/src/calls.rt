@@ -5,7 +5,7 @@ ghost use Rattle.distance.specs.Lent.{SameHand, SamePair, hand_held, pair_held};
 use crate::asking::{ask_overlay, ask_pair};
 use crate::checking::{check_hand_input, check_hand_lengths, check_pair_input, check_pair_lengths};
 use crate::{HandWork, PairWork};
-use road::{ArcCount, Graph, NodeCount, Refusal};
+use road::{ArcCount, Graph, GraphMut, NodeCount, Refusal};
 
 // The handheld question: the distance from s to t in the overlay, lent the set and the overlay
 // alone.
@@ -39,15 +39,27 @@ pub fn any_pair(
 {
     check_pair_input(graph, set, overlay, s, t)?;
     check_pair_lengths(graph.node_count(), ArcCount(graph.heads.len()), work)?;
+    let mut back = GraphMut {
+        starts: &mut *work.starts,
+        heads: &mut *work.heads,
+        weights: &mut *work.weights,
+    };
+    let mut hand = HandWork {
+        labels: &mut *work.labels,
+        heap: &mut *work.heap,
+        places: &mut *work.places,
+        touched: &mut *work.touched,
+        blocked: &mut *work.blocked,
+    };
     Ok(ask_pair(
         graph,
         set,
         overlay,
         s as usize,
         t as usize,
-        &mut work.back,
+        &mut back,
         work.outward,
         work.inward,
-        &mut work.hand,
+        &mut hand,
     ))
 }

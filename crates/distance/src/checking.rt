@@ -58,11 +58,15 @@ pub fn check_pair_lengths(n: NodeCount, m: ArcCount, work: &PairWork) -> Result<
     ensures { Judged (lengths_fault (pair_lengths n.0 m.0 (pair_held work.now))) result }
 {
     check_lengths(&[
-        (work.back.starts.len(), n.0 + 1),
-        (work.back.heads.len(), m.0),
-        (work.back.weights.len(), m.0),
+        (work.starts.len(), n.0 + 1),
+        (work.heads.len(), m.0),
+        (work.weights.len(), m.0),
         (work.outward.len(), n.0),
         (work.inward.len(), n.0),
-    ])?;
-    check_hand_lengths(n, &work.hand)
+        (work.labels.len(), n.0),
+        (work.heap.len(), 2 * n.0),
+        (work.places.len(), n.0),
+        (work.touched.len(), n.0),
+        (work.blocked.len(), n.0),
+    ])
 }

@@ -9,7 +9,6 @@ mod sums;
 mod through;
 
 pub use calls::{any_pair, handheld};
-use road::GraphMut;
 
 // The work that the handheld question is lent.
 #[derive(Drop)]
@@ -21,14 +20,22 @@ pub struct HandWork<'a> {
     pub blocked: &'a mut [u8],
 }
 
-// The work that the any-pair question is lent: the graph turned round, the rows from s and into t,
-// and the handheld's.
+// The work that the any-pair question is lent: room for the graph turned round, the rows from s and
+// into t, and what the handheld question works in.
+// All slices: tried with a graph and a hand's work within, and the proof didn't close, since of a
+// struct within this one a caller does not learn what its slices hold.
 #[derive(Drop)]
 pub struct PairWork<'a> {
-    pub back: GraphMut<'a>,
+    pub starts: &'a mut [u32],
+    pub heads: &'a mut [u32],
+    pub weights: &'a mut [u32],
     pub outward: &'a mut [u64],
     pub inward: &'a mut [u64],
-    pub hand: HandWork<'a>,
+    pub labels: &'a mut [u64],
+    pub heap: &'a mut [u32],
+    pub places: &'a mut [u32],
+    pub touched: &'a mut [u32],
+    pub blocked: &'a mut [u8],
 }
 
 // What ways through the overlay are made of: the set, the row of labels from s and the row into t.

@@ -4,7 +4,9 @@ use Rattle.road.specs.Limits.{road_limits, overlay_limits}
 use Rattle.road.specs.Refusals.{Said, answer}
 use Rattle.road.specs.Roads.{nodes_of}
 use Rattle.road.specs.workings.Sound.{Sound}
-use Rattle.distance.specs.Calls.{HandAreas, PairAreas}
+use Rattle.road.specs.declared.GraphMut.{GraphMut}
+use Rattle.distance.specs.declared.HandWork.{HandWork}
+use Rattle.distance.specs.Calls.{HandAreas, PairAreas, pair_areas}
 
 -- the same of a label
 abbrev pub said_label : ℕ → Said
@@ -41,3 +43,8 @@ pub record PairReady (starts heads weights chosen starts' heads' weights' : List
   pub places_long : length a.places ≡ nodes_of starts
   pub touched_long : length a.touched ≡ nodes_of starts
   pub blocked_long : length a.blocked ≡ nodes_of starts
+
+-- what the any-pair question's work holds, of the parts that it is handled in
+abbrev pub parts_held : GraphMut → List ℕ → List ℕ → HandWork → PairAreas
+parts_held back outward inward hand =
+    pair_areas back.starts.now back.heads.now back.weights.now outward inward hand.labels.now hand.heap.now hand.places.now hand.touched.now hand.blocked.now
