@@ -1,6 +1,6 @@
 // One question to each call.
 use cover::Work;
-use distance::{HandWork, PairWork};
+use distance::PairWork;
 use printing::tell;
 use road::{ArcCount, Graph, GraphMut, NodeCount, Refusal};
 use std::io;
@@ -66,20 +66,16 @@ fn ask_pair(graph: &Graph, set: &[u8], s: u32, t: u32) -> Result<Option<u64>, Re
     };
     build(graph, set, &mut rooms)?;
     let mut work = PairWork {
-        back: GraphMut {
-            starts: &mut [7; 4],
-            heads: &mut [7; 3],
-            weights: &mut [7; 3],
-        },
+        starts: &mut [7; 4],
+        heads: &mut [7; 3],
+        weights: &mut [7; 3],
         outward: &mut [7; 3],
         inward: &mut [7; 3],
-        hand: HandWork {
-            labels: &mut [7; 3],
-            heap: &mut [7; 6],
-            places: &mut [7; 3],
-            touched: &mut [7; 3],
-            blocked: &mut [7; 3],
-        },
+        labels: &mut [7; 3],
+        heap: &mut [7; 6],
+        places: &mut [7; 3],
+        touched: &mut [7; 3],
+        blocked: &mut [7; 3],
     };
     distance::any_pair(graph, set, &rooms.lent(), s, t, &mut work)
 }

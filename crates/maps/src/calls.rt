@@ -7,7 +7,7 @@ ghost use Rattle.maps.specs.workings.Calls.{CoverFits, CoverFound, OverlayFits, 
 
 use crate::lists::count_up;
 use cover::{Work as CoverWork, cover};
-use distance::{HandWork, PairWork, any_pair};
+use distance::{PairWork, any_pair};
 use overlay::{Work as OverlayWork, overlay};
 use road::{ArcCount, Graph, GraphMut, NodeCount, Refusal};
 
@@ -84,20 +84,16 @@ pub fn find_distance(
     let mut touched = [0u32; 512];
     let mut blocked = [0u8; 512];
     let mut work = PairWork {
-        back: GraphMut {
-            starts: &mut starts[..n + 1],
-            heads: &mut heads[..m],
-            weights: &mut weights[..m],
-        },
+        starts: &mut starts[..n + 1],
+        heads: &mut heads[..m],
+        weights: &mut weights[..m],
         outward: &mut outward[..n],
         inward: &mut inward[..n],
-        hand: HandWork {
-            labels: &mut labels[..n],
-            heap: &mut heap[..2 * n],
-            places: &mut places[..n],
-            touched: &mut touched[..n],
-            blocked: &mut blocked[..n],
-        },
+        labels: &mut labels[..n],
+        heap: &mut heap[..2 * n],
+        places: &mut places[..n],
+        touched: &mut touched[..n],
+        blocked: &mut blocked[..n],
     };
     any_pair(graph, set, overlay, s, t, &mut work)
 }
