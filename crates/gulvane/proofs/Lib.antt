@@ -1,3 +1,3 @@
--- The structs say what the enums say.
+-- The structs say what the answers say.
 pub mod Told
 pub mod Demands

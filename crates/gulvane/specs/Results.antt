@@ -1,6 +1,8 @@
--- The number and the values that a struct gives: the same as the enum's that it stands for.
-use Rattle.std.specs.Prelude.{◌≡◌, ◌≢◌, [], ◌∷◌, ℕ, zero, suc, ◌≤◌}
-use Rattle.road.specs.Refusals.{Said, answer}
+-- The number and the values that a struct gives: the same as the answer's that it stands for.
+use Rattle.std.specs.Prelude.{◌≡◌, ◌≢◌, [], ◌∷◌, ℕ, zero, suc, ◌≤◌, Result, Ok, Err, Option}
+use Rattle.distance.specs.Calls.{said_of}
+use Rattle.road.specs.declared.Refusal.{Refusal}
+use Rattle.road.specs.Refusals.{Said, answer, refusal}
 use Rattle.gulvane.specs.declared.GulvaneCount.{GulvaneCount}
 use Rattle.gulvane.specs.declared.GulvaneDistance.{GulvaneDistance}
 
@@ -30,3 +32,17 @@ pub record BareDistance (x : GulvaneDistance) : Type 0 where
   pub refused : x.refusal ≢ 0 → x.way ≡ 0
   pub bit : x.way ≤ 1
   pub no_way : x.way ≡ 0 → x.weight ≡ 0
+
+-- what an answer says that is a count
+abbrev pub counted_said : Result ℕ Refusal → Said
+counted_said (Ok count) = answer (count ∷ [])
+counted_said (Err r) = refusal r
+
+-- the struct says what the answer says, and is bare
+pub record CountOf (a : Result ℕ Refusal) (x : GulvaneCount) : Type 0 where
+  pub says : said_count x ≡ counted_said a
+  pub bare : BareCount x
+
+pub record DistanceOf (a : Result (Option ℕ) Refusal) (x : GulvaneDistance) : Type 0 where
+  pub says : said_distance x ≡ said_of a
+  pub bare : BareDistance x

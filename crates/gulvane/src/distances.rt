@@ -3,45 +3,45 @@ ghost use Rattle.distance.specs.Calls.{pair_areas, hand_areas, HandOutcome, Pair
 ghost use Rattle.gulvane.specs.Results.{BareDistance, said_distance};
 
 use crate::GulvaneDistance;
-use crate::results::of_distance;
-use distance::{any_pair, handheld};
+use distance::{HandWork, PairWork, any_pair, handheld};
+use road::Graph;
 
 // The handheld question.
 #[unsafe(no_mangle)]
-pub extern "C" fn gulvane_handheld(
+pub extern "C" fn gulvane_handheld<'w>(
     set: &[u8],
     over_starts: &[u32],
     over_heads: &[u32],
     over_weights: &[u32],
     s: u32,
     t: u32,
-    labels: &mut [u64],
-    heap: &mut [u32],
-    places: &mut [u32],
-    touched: &mut [u32],
-    blocked: &mut [u8],
+    labels: &'w mut [u64],
+    heap: &'w mut [u32],
+    places: &'w mut [u32],
+    touched: &'w mut [u32],
+    blocked: &'w mut [u8],
 ) -> GulvaneDistance
     ensures hand_outcome { HandOutcome set.now over_starts.now over_heads.now over_weights.now s t (hand_areas labels.old heap.old places.old touched.old blocked.old) (said_distance result) (hand_areas labels.new heap.new places.new touched.new blocked.new) }
     ensures bare_distance { BareDistance result }
 {
-    of_distance(handheld(
-        set,
-        over_starts,
-        over_heads,
-        over_weights,
-        s,
-        t,
+    let overlay = Graph {
+        starts: over_starts,
+        heads: over_heads,
+        weights: over_weights,
+    };
+    let mut work = HandWork {
         labels,
         heap,
         places,
         touched,
         blocked,
-    ))
+    };
+    handheld(set, &overlay, s, t, &mut work).into()
 }
 
 // The any-pair question.
 #[unsafe(no_mangle)]
-pub extern "C" fn gulvane_any_pair(
+pub extern "C" fn gulvane_any_pair<'w>(
     starts: &[u32],
     heads: &[u32],
     weights: &[u32],
@@ -51,33 +51,34 @@ pub extern "C" fn gulvane_any_pair(
     over_weights: &[u32],
     s: u32,
     t: u32,
-    starts_back: &mut [u32],
-    heads_back: &mut [u32],
-    weights_back: &mut [u32],
-    outward: &mut [u64],
-    inward: &mut [u64],
-    labels: &mut [u64],
-    heap: &mut [u32],
-    places: &mut [u32],
-    touched: &mut [u32],
-    blocked: &mut [u8],
+    starts_back: &'w mut [u32],
+    heads_back: &'w mut [u32],
+    weights_back: &'w mut [u32],
+    outward: &'w mut [u64],
+    inward: &'w mut [u64],
+    labels: &'w mut [u64],
+    heap: &'w mut [u32],
+    places: &'w mut [u32],
+    touched: &'w mut [u32],
+    blocked: &'w mut [u8],
 ) -> GulvaneDistance
     ensures pair_outcome { PairOutcome starts.now heads.now weights.now set.now over_starts.now over_heads.now over_weights.now s t (pair_areas starts_back.old heads_back.old weights_back.old outward.old inward.old labels.old heap.old places.old touched.old blocked.old) (said_distance result) (pair_areas starts_back.new heads_back.new weights_back.new outward.new inward.new labels.new heap.new places.new touched.new blocked.new) }
     ensures bare_distance { BareDistance result }
 {
-    of_distance(any_pair(
+    let graph = Graph {
         starts,
         heads,
         weights,
-        set,
-        over_starts,
-        over_heads,
-        over_weights,
-        s,
-        t,
-        starts_back,
-        heads_back,
-        weights_back,
+    };
+    let overlay = Graph {
+        starts: over_starts,
+        heads: over_heads,
+        weights: over_weights,
+    };
+    let mut work = PairWork {
+        starts: starts_back,
+        heads: heads_back,
+        weights: weights_back,
         outward,
         inward,
         labels,
@@ -85,5 +86,6 @@ pub extern "C" fn gulvane_any_pair(
         places,
         touched,
         blocked,
-    ))
+    };
+    any_pair(&graph, set, &overlay, s, t, &mut work).into()
 }

@@ -3,8 +3,8 @@ ghost use Rattle.drive.specs.Calls.{Outcome};
 ghost use Rattle.gulvane.specs.Results.{BareCount, said_count};
 
 use crate::GulvaneCount;
-use crate::results::of_thin;
 use drive::thin;
+use road::Graph;
 
 // Thins a drive.
 #[unsafe(no_mangle)]
@@ -19,5 +19,10 @@ pub extern "C" fn gulvane_thin(
     ensures outcome { Outcome starts.now heads.now weights.now set.now drive.now positions.old (said_count result) positions.new }
     ensures bare_count { BareCount result }
 {
-    of_thin(thin(starts, heads, weights, set, drive, positions))
+    let graph = Graph {
+        starts,
+        heads,
+        weights,
+    };
+    thin(&graph, set, drive, positions).map(|c| c.0).into()
 }

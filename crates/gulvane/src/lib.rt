@@ -1,5 +1,7 @@
-// The calls once more for C and Rust: each is thin over the proved call, and says the same. An enum
-// goes as a struct, whose `refusal` is 0 or a refusal's number.
+// The calls once more for C and Rust: each is thin over the proved call, and says the same. An
+// answer goes as a struct, whose `refusal` is 0 or a refusal's number. The slices come one by one,
+// each with its length, as C lends them; the structs that the calls take are made of them here, and
+// what one struct holds is lent for one lifetime, 'w.
 #![tactic(auto)]
 
 mod distances;
