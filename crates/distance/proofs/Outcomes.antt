@@ -1,7 +1,6 @@
 -- The calls: from their checks to the outcomes.
 use mathlib.Core.Path.{◌≡◌, refl, sym, ap, subst, subst₂, ◌∙◌}
-use mathlib.Core.Logic.{◌⊎◌, inl, inr, ⊎_elim}
-use mathlib.Core.List.{List, [], ◌∷◌, ◌++◌}
+use mathlib.Core.List.{List, [], ◌∷◌}
 use Prim.Native.Nat.{ℕ, zero, suc, ◌+◌, ◌*◌, ◌≤◌}
 use native.Mathlib.Omega.{arith}
 use lib.ListN.{length}
@@ -9,14 +8,14 @@ use Rattle.std.specs.Prelude.{Option, Some, Result, Ok, Err, IsErrAnd}
 use Rattle.paths.specs.Least.{Told}
 use Rattle.road.specs.declared.Refusal.{Refusal}
 use Rattle.road.specs.Chains.{lone_set_faults, road_and_set_faults}
-use Rattle.road.specs.Faults.{BadSetSize, Unlike, graph_faults, node_fault, lengths_fault, outside_fault}
+use Rattle.road.specs.Faults.{BadSetSize, graph_faults, node_fault, lengths_fault, outside_fault}
 use Rattle.road.specs.Limits.{overlay_limits, most_nodes}
 use Rattle.road.specs.workings.Verdicts.{Verdict, Judged, Judges}
 use Rattle.road.specs.Refusals.{None, Said, refusal}
 use Rattle.road.specs.Roads.{nodes_of, road}
 use Rattle.road.specs.workings.Sound.{Sound}
 use Rattle.road.proofs.Faults.{sound_of, long_at, not_unlike, not_over}
-use Rattle.road.proofs.Refusals.{judged_alone, not_both, stops, goes_on, none_front, none_if_no_first, unheld, untold, none_back}
+use Rattle.road.proofs.Refusals.{judged_alone, stops, goes_on, none_front, none_if_no_first, unheld, none_back}
 use Rattle.overlay.specs.Lent.{BadOverlay, overlay_fault}
 use Rattle.road.proofs.Left.{road_and_set_left}
 use Rattle.distance.specs.workings.Ready.{said_label, HandReady, PairReady}
@@ -38,36 +37,6 @@ said_found Option.None = refl
 pub said_handed : (w : Result (Option ℕ) Refusal) (r : Refusal) → IsErrAnd w (λ s. s ≡ r) → said_of w ≡ refusal r
 said_handed (Ok d) r h = elim h [ ]
 said_handed (Err s) r h = ap refusal h
-
--- lengths checked in two goes
-module _ (ps qs : List (ℕ × ℕ)) where
-  unlike_left : (l : List (ℕ × ℕ)) → Unlike l → Unlike (l ++ qs)
-  unlike_left (p ∷ l) (inl n) = inl n
-  unlike_left (p ∷ l) (inr u) = inr (unlike_left l u)
-  unlike_left [] x' = elim x' [ ]
-
-  unlike_right : (l : List (ℕ × ℕ)) → Unlike qs → Unlike (l ++ qs)
-  unlike_right [] u = u
-  unlike_right (p ∷ l) u = inr (unlike_right l u)
-
-  unlike_cases : (l : List (ℕ × ℕ)) → Unlike (l ++ qs) → Unlike l ⊎ Unlike qs
-  unlike_cases [] u = inr u
-  unlike_cases (p ∷ l) (inl n) = inl (inl n)
-  unlike_cases (p ∷ l) (inr u) = ⊎_elim (λ x. inl (inr x)) inr (unlike_cases l u)
-
-  pub lengths_stop : (v : Verdict) (r : Refusal) → Judged (lengths_fault ps) v → v ≡ Err r → Judged (lengths_fault (ps ++ qs)) v
-  lengths_stop v r j e =
-      record {
-        passed = λ p. absurd (not_both p e);
-        refused = λ s q. record { is = (j.refused s q).is; holds = unlike_left ps (j.refused s q).holds };
-      }
-
-  pub lengths_on : (u v : Verdict) → Judged (lengths_fault ps) u → u ≡ Ok tt → Judged (lengths_fault qs) v → Judged (lengths_fault (ps ++ qs)) v
-  lengths_on u v j e k =
-      record {
-        passed = λ p. untold (λ x. ⊎_elim (unheld (j.passed e)) (unheld (k.passed p)) (unlike_cases ps x));
-        refused = λ s q. record { is = (k.refused s q).is; holds = unlike_right ps (k.refused s q).holds };
-      }
 
 -- what check 7 leaves
 module _ (chosen starts heads weights : List ℕ) (f : BadOverlay chosen starts heads weights → ⊥) where
