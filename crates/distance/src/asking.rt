@@ -78,6 +78,7 @@ pub fn ask_overlay(overlay: &Graph, s: usize, t: usize, work: &mut HandWork) -> 
 }
 
 // The row from s and the row into t, over paths with no node of the set strictly inside.
+// Its work comes in the parts that `ask_pair` is lent.
 fn find_rows(
     graph: &Graph,
     set: &[u8],

@@ -32,7 +32,7 @@ pub fn refusals(rt: &impl Print) -> io::Result<()> {
     ] {
         print!(rt; " {}", u8::from(why))?;
     }
-    println!(rt; "")
+    println!(rt)
 }
 
 fn nodes(rt: &impl Print, starts: &[u32]) -> io::Result<()> {
@@ -55,7 +55,7 @@ pub fn counts(rt: &impl Print) -> io::Result<()> {
     nodes(rt, &[0; 2])?;
     nodes(rt, &[0; 4097])?;
     nodes(rt, &[0; 4098])?;
-    println!(rt; "")
+    println!(rt)
 }
 
 // Check 7 by itself: an arc from 0 to 1, whose byte in the set is 2; and no set, so no node.

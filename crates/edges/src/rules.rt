@@ -8,7 +8,7 @@ use std::io;
 pub fn check(rt: &impl Print, label: &str, found: Result<(), Refusal>) -> io::Result<()> {
     print!(rt; "{label}:")?;
     tell(rt, "", found.map(|()| "passed"))?;
-    println!(rt; "")
+    println!(rt)
 }
 
 // Two nodes, and an arc of this weight.
@@ -64,7 +64,7 @@ fn line(heads: &mut [u32], weights: &mut [u32]) -> Result<ArcCount, Refusal> {
 fn room(rt: &impl Print, label: &str, said: Result<ArcCount, Refusal>) -> io::Result<()> {
     print!(rt; "{label}:")?;
     tell(rt, "arcs ", said.map(|arcs| arcs.0))?;
-    println!(rt; "")
+    println!(rt)
 }
 
 pub fn rooms(rt: &impl Print) -> io::Result<()> {

@@ -35,7 +35,7 @@ fn line(rt: &impl Print, label: &str, case: Case) -> io::Result<()> {
         waiting: 0,
     };
     let taken = takes(&graph, &maze.blocked, &mut labels, &mut queue);
-    let labelled = labels.iter().filter(|label| **label != 0).count();
+    let labelled = labels.iter().filter(|reached| **reached != 0).count();
     println!(rt; "{label}: taken {taken} labelled {labelled}")
 }
 

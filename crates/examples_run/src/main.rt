@@ -77,5 +77,5 @@ fn main(rt: HostRuntime) -> io::Result<()> {
     distance(&rt, &WEDGE, &ONLY_TWO, 1, 0)?;
     print!(rt; "\nP12:")?;
     drive(&rt, &RING, &ONLY_TWO, &[2, 1])?;
-    println!(rt; "")
+    println!(rt)
 }
