@@ -18,7 +18,9 @@ use Rattle.road.proofs.Filled.{zeros_at}
 use Rattle.search.specs.workings.Rows.{Free, Row, Asks, label_at}
 use Rattle.overlay.proofs.Locals.{reaches_under}
 use Rattle.distance.specs.declared.HandWork.{HandWork}
-use Rattle.distance.specs.workings.Labels.{Small, Modest, Searchable, Leaves}
+use Rattle.distance.specs.workings.Labels.{Small, Modest, Searchable}
+use Rattle.distance.specs.workings.Through.{Leaves}
+use Rattle.road.specs.declared.Graph.{Graph}
 
 -- no label is more than one over 16,769,025,000,000
 pub row_small :
@@ -76,8 +78,7 @@ module _ (starts heads weights blocked labels heap places : List ℕ) (s : Searc
 
 -- what two searches leave, one after the other
 pub leaves_again :
-    {starts heads weights : List ℕ} {first second third : HandWork} → Leaves starts heads weights first second → Leaves starts heads weights second third →
-    Leaves starts heads weights first third
+    {overlay : Graph} {first second third : HandWork} → Leaves overlay first second → Leaves overlay second third → Leaves overlay first third
 leaves_again x y =
     record {
       searchable = y.searchable;

@@ -7,8 +7,9 @@ ghost use Rattle.road.specs.Roads.{nodes_of, road};
 ghost use Rattle.distance.specs.Calls.{hand_cleared, pair_cleared};
 ghost use Rattle.distance.specs.Lent.{SameHand, hand_held};
 ghost use Rattle.distance.specs.Questions.{AnyPair, Handheld};
-ghost use Rattle.distance.specs.workings.Labels.{Leaves, RowsAsked, RowsFound, Searchable, label_of};
+ghost use Rattle.distance.specs.workings.Labels.{RowsAsked, RowsFound, label_of};
 ghost use Rattle.distance.specs.workings.Ready.{HandReady, PairReady, parts_held};
+ghost use Rattle.distance.specs.workings.Through.{Leaves, SearchableIn};
 ghost use Rattle.search.specs.workings.Rows.{Row};
 
 use crate::sums::{lesser, shown};
@@ -36,10 +37,10 @@ impl<'a> HandWork<'a> {
 
     // Labels the nodes of the overlay by what they are from one of them.
     pub fn search(&mut self, overlay: &Graph, from: usize)
-        requires searchable { Searchable overlay.now.starts.now overlay.now.heads.now overlay.now.weights.now self.old.blocked.now self.old.labels.now self.old.heap.now self.old.places.now }
+        requires searchable { SearchableIn overlay.now self.old }
         requires from_bound { from < nodes_of overlay.now.starts.now }
         ensures row { Row (road overlay.now.starts.now overlay.now.heads.now overlay.now.weights.now) self.old.blocked.now from self.new.labels.now }
-        ensures leaves { Leaves overlay.now.starts.now overlay.now.heads.now overlay.now.weights.now self.old self.new }
+        ensures leaves { Leaves overlay.now self.old self.new }
     {
         let blocked = &mut *self.blocked;
         let mut queue = Queue {

@@ -2,7 +2,8 @@
 ghost use Rattle.std.specs.Prelude.{◌≡◌, ◌<◌, length};
 ghost use Rattle.paths.specs.Least.{Told};
 ghost use Rattle.road.specs.Roads.{nodes_of, road};
-ghost use Rattle.distance.specs.workings.Labels.{Entries, Exits, Gate, Leaves, Modest, Rows, Says, Searchable, Small, Sum, Through, label_of};
+ghost use Rattle.distance.specs.workings.Labels.{Entries, Exits, Gate, Modest, Says, Small, Sum, Through, label_of};
+ghost use Rattle.distance.specs.workings.Through.{Leaves, RowsOf, SearchableIn};
 ghost use Rattle.search.specs.workings.Rows.{label_at};
 
 use crate::sums::{gate, lesser, shown, sum};
@@ -12,7 +13,7 @@ use road::Graph;
 // From s over an entry at the distance `first`, through the overlay, whose row of that entry is
 // given, and out at b.
 fn through_exit(ways: &Ways, labels: &[u64], first: Option<u64>, b: usize) -> Option<u64>
-    requires rows { Rows ways.now.set.now ways.now.outward.now ways.now.inward.now ways.now.s ways.now.t (length labels.now) }
+    requires rows { RowsOf ways.now (length labels.now) }
     requires b_in_bounds { b < length labels.now }
     requires small { Small labels.now }
     requires modest { Modest (label_of first) }
@@ -25,7 +26,7 @@ fn through_exit(ways: &Ways, labels: &[u64], first: Option<u64>, b: usize) -> Op
 
 // The least over all exits.
 fn through_exits(ways: &Ways, labels: &[u64], first: Option<u64>) -> Option<u64>
-    requires rows { Rows ways.now.set.now ways.now.outward.now ways.now.inward.now ways.now.s ways.now.t (length labels.now) }
+    requires rows { RowsOf ways.now (length labels.now) }
     requires small { Small labels.now }
     requires modest { Modest (label_of first) }
     ensures { Told (Exits ways.now.set.now labels.now ways.now.inward.now ways.now.t (label_of first) (length ways.now.set.now)) (label_of result) }
@@ -39,11 +40,11 @@ fn through_exits(ways: &Ways, labels: &[u64], first: Option<u64>) -> Option<u64>
 
 // The least over one entry and all exits. A node that is no entry costs no search.
 fn through_entry(overlay: &Graph, ways: &Ways, hand: &mut HandWork, a: usize) -> Option<u64>
-    requires searchable { Searchable overlay.now.starts.now overlay.now.heads.now overlay.now.weights.now hand.old.blocked.now hand.old.labels.now hand.old.heap.now hand.old.places.now }
-    requires rows { Rows ways.now.set.now ways.now.outward.now ways.now.inward.now ways.now.s ways.now.t (nodes_of overlay.now.starts.now) }
+    requires searchable { SearchableIn overlay.now hand.old }
+    requires rows { RowsOf ways.now (nodes_of overlay.now.starts.now) }
     requires a_bound { a < nodes_of overlay.now.starts.now }
     ensures told { Told (Through (road overlay.now.starts.now overlay.now.heads.now overlay.now.weights.now) ways.now.set.now ways.now.outward.now ways.now.inward.now ways.now.s ways.now.t a) (label_of result) }
-    ensures leaves { Leaves overlay.now.starts.now overlay.now.heads.now overlay.now.weights.now hand.old hand.new }
+    ensures leaves { Leaves overlay.now hand.old hand.new }
 {
     let first = gate(ways.set, ways.outward, ways.s, a);
     if first.is_none() {
@@ -55,10 +56,10 @@ fn through_entry(overlay: &Graph, ways: &Ways, hand: &mut HandWork, a: usize) ->
 
 // The least over all entries and all exits.
 pub fn through_overlay(overlay: &Graph, ways: &Ways, hand: &mut HandWork) -> Option<u64>
-    requires searchable { Searchable overlay.now.starts.now overlay.now.heads.now overlay.now.weights.now hand.old.blocked.now hand.old.labels.now hand.old.heap.now hand.old.places.now }
-    requires rows { Rows ways.now.set.now ways.now.outward.now ways.now.inward.now ways.now.s ways.now.t (nodes_of overlay.now.starts.now) }
+    requires searchable { SearchableIn overlay.now hand.old }
+    requires rows { RowsOf ways.now (nodes_of overlay.now.starts.now) }
     ensures told { Told (Entries (road overlay.now.starts.now overlay.now.heads.now overlay.now.weights.now) ways.now.set.now ways.now.outward.now ways.now.inward.now ways.now.s ways.now.t (length ways.now.set.now)) (label_of result) }
-    ensures leaves { Leaves overlay.now.starts.now overlay.now.heads.now overlay.now.weights.now hand.old hand.new }
+    ensures leaves { Leaves overlay.now hand.old hand.new }
 {
     let mut best = None;
     for a in 0..ways.set.len() {

@@ -8,8 +8,6 @@ use Rattle.road.specs.Roads.{nodes_of}
 use Rattle.road.specs.workings.Sound.{Sound}
 use Rattle.overlay.specs.Overlays.{Outside}
 use Rattle.overlay.specs.workings.Writing.{Local}
-use Rattle.distance.specs.Lent.{SameHand}
-use Rattle.distance.specs.declared.HandWork.{HandWork}
 use Rattle.search.specs.workings.Rows.{label_at}
 
 abbrev pub label_of : Option ℕ → ℕ
@@ -90,15 +88,6 @@ pub record Searchable (starts heads weights blocked labels heap places : List �
   pub queue : nodes_of starts ≤ length heap
   pub heap_zero : heap ≡ replicate (length heap) 0
   pub places_zero : places ≡ replicate (nodes_of starts) 0
-
--- what a search in the overlay leaves: all but the labels as it was, so that the next search can follow
-pub record Leaves (starts heads weights : List ℕ) (before after : HandWork) : Type 0 where
-  pub searchable : Searchable starts heads weights after.blocked.now after.labels.now after.heap.now after.places.now
-  pub heap : after.heap.now ≡ before.heap.now
-  pub places : after.places.now ≡ before.places.now
-  pub touched : after.touched.now ≡ before.touched.now
-  pub blocked : after.blocked.now ≡ before.blocked.now
-  pub same_slices : SameHand before after
 
 -- the row into t: labels over paths with no node of the set strictly inside
 pub record Into (G : Graph) (chosen : List ℕ) (t : ℕ) (row : List ℕ) : Type 0 where
