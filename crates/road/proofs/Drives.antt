@@ -1,27 +1,19 @@
 -- Whether two nodes are joined, by halving; and check 10, position by position.
-use mathlib.Core.Path.{◌≡◌, sym, ap, subst, ◌∙◌}
+use mathlib.Core.Path.{◌≡◌, sym, ap, subst}
 use mathlib.Core.Logic.{◌≢◌}
 use mathlib.Core.List.{List}
 use Prim.Native.Nat.{ℕ, suc, ◌+◌, ◌-◌, ◌≤◌, ◌<◌}
-use native.Mathlib.Decide.{ℕ_discrete, dec_lt, le_ind}
+use native.Mathlib.Decide.{ℕ_discrete, le_ind}
 use native.Mathlib.Numerals.{add-one}
 use native.Mathlib.Omega.{arith}
 use borrow.Author.Count.{below_more}
-use lib.ListN.{length, get_or, take, drop}
-use Rattle.std.specs.Prelude.{Result, Ok, Err}
-use Rattle.std.specs.Result.{is_ok}
-use Rattle.std.specs.List.Sorted.{IsBinarySearchResult}
-use Rattle.std.specs.Ordering.{nat_cmp}
-use Rattle.std.proofs.lemmas.List.Sorted.{searched}
-use Rattle.std.proofs.lemmas.List.{length-drop, length-take-le, get_or-take, get_or-drop}
-use Rattle.road.specs.workings.Verdicts.{Tells}
+use lib.ListN.{length, get_or}
 use Rattle.road.specs.Limits.{most_drive}
 use Rattle.road.specs.Roads.{nodes_of, Owns}
 use Rattle.road.specs.workings.Sound.{Sorted}
 use Rattle.road.specs.Drives.{Joined, BadDrive, none, many, outside, apart}
 use Rattle.road.specs.workings.Scans.{Entered}
-use Rattle.road.proofs.Rows.{owned_listed, starts_rise}
-use Rattle.road.proofs.Refusals.{tells_yes, tells_no}
+use Rattle.road.proofs.Rows.{owned_listed}
 use Rattle.road.proofs.Faults.{not_over}
 
 module _ (starts heads : List ℕ) (g : Sorted starts heads) where
@@ -82,64 +74,6 @@ module _ (starts heads : List ℕ) (g : Sorted starts heads) (u v : ℕ) where
 
   pub between_none : (low high : ℕ) → Between starts heads u v low high → high ≤ low → Joined starts heads u v → ⊥
   between_none low high b h j = omega (arith, b.all j.place j.owned j.head)
-
--- so a search of u's heads alone tells it
-module _ (starts heads : List ℕ) (g : Sorted starts heads) (u v : ℕ) (node : u < nodes_of starts) where
-  pub row_from : get_or starts u 0 ≤ get_or starts (u + 1) 0
-  row_from = g.rising.rises u (omega (arith, node))
-
-  pub row_listed : get_or starts (u + 1) 0 ≤ length heads
-  row_listed = omega (arith, g.rising.ends, starts_rise starts heads g.rising (u + 1) (nodes_of starts) (omega (arith, node)) (omega (arith, node)))
-
-  module _ (first end : ℕ) (from : first ≡ get_or starts u 0) (to : end ≡ get_or starts (u + 1) 0) where
-    abbrev row : List ℕ
-    row = take (end - first) (drop first heads)
-
-    listed : end ≤ length heads
-    listed = omega (arith, to, row_listed)
-
-    length_row : length row ≡ end - first
-    length_row = length-take-le (end - first) (drop first heads) (omega (arith, length-drop first heads, listed))
-
-    at_row : (i : ℕ) → i < end - first → get_or row i 0 ≡ get_or heads (first + i) 0
-    at_row i h = get_or-take (end - first) (drop first heads) i 0 h ∙ get_or-drop first heads i 0
-
-    own : (i : ℕ) → i < end - first → Owns starts u (first + i)
-    own i h = record { from = omega (arith, from); below = omega (arith, to, h) }
-
-    rises : (i j : ℕ) → i ≤ j → j < length row → get_or row i 0 ≤ get_or row j 0
-    rises i j l h = by (ℕ_discrete i j)
-      where
-        below : j < end - first
-        below = omega (arith, h, length_row)
-
-        by : Dec (i ≡ j) → get_or row i 0 ≤ get_or row j 0
-        by (yes e) = omega (arith, ap (λ (x : ℕ). get_or row x 0) e)
-        by (no n) =
-            omega (arith, at_row i (omega (arith, below)), at_row j below, row_ascends starts heads g u (first + i) (first + j) (own i (omega (arith, below))) (omega (arith, n)) (own j below))
-
-    pub joined_found : (r : Result ℕ ℕ) → IsBinarySearchResult (λ y. nat_cmp y v) (take (end - first) (drop first heads)) r → Tells (is_ok r) (Joined starts heads u v)
-    joined_found (Ok i) b = tells_yes (record { place = first + i; listed = omega (arith, listed, at.0, length_row); owned = own i (omega (arith, at.0, length_row)); head = sym (at_row i (omega (arith, at.0, length_row))) ∙ at.1 })
-      where
-        at : (i < length row) × (get_or row i 0 ≡ v)
-        at = searched row v (Ok i) b rises
-    joined_found (Err i) b = tells_no none
-      where
-        gap : (i ≤ length row) × ((k : ℕ) → k < i → get_or row k 0 < v) × ((k : ℕ) → i ≤ k → k < length row → v < get_or row k 0)
-        gap = searched row v (Err i) b rises
-
-        none : Joined starts heads u v → ⊥
-        none j = by (dec_lt k i)
-          where
-            k : ℕ
-            k = j.place - first
-
-            there : get_or row k 0 ≡ v
-            there = at_row k (omega (arith, j.owned.from, j.owned.below, from, to)) ∙ ap (λ (x : ℕ). get_or heads x 0) (omega (arith, j.owned.from, from)) ∙ j.head
-
-            by : Dec (k < i) → ⊥
-            by (yes h) = omega (arith, gap.1 k h, there)
-            by (no n) = omega (arith, gap.2 k (omega (arith, n)) (omega (arith, length_row, j.owned.from, j.owned.below, from, to)), there)
 
 module _ (starts heads drive : List ℕ) where
   pub entered_none : Entered starts heads drive 0

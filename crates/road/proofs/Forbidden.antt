@@ -9,7 +9,7 @@ use Rattle.paths.specs.Lists.{Mem, Different}
 use Rattle.paths.proofs.Lists.{mem_at}
 use Rattle.road.specs.declared.Limits.{Limits}
 use Rattle.road.specs.declared.Refusal.{Refusal}
-use Rattle.std.specs.Prelude.{Ok, Err}
+use Rattle.std.specs.Prelude.{Ok}
 use Rattle.road.specs.Drives.{Joined, BadDrive, drive_fault}
 use Rattle.road.specs.Faults.{BadSizes, BadSetSize, BadK, sizes, set_size, k_fault, order_fault, graph_faults}
 use Rattle.road.specs.Limits.{road_limits}

@@ -3,7 +3,6 @@ use mathlib.Core.Path.{◌≡◌}
 use mathlib.Core.List.{List, [], ◌∷◌, ◌++◌}
 use Prim.Native.Nat.{ℕ}
 use Rattle.road.specs.declared.Limits.{Limits}
-use Rattle.std.specs.Prelude.{Ok, Err}
 use Rattle.road.specs.Chains.{cover_faults, road_and_set_faults, lone_set_faults, drive_faults}
 use Rattle.road.specs.Faults.{graph_faults, k_fault, order_fault, set_fault}
 use Rattle.road.specs.Drives.{drive_fault}

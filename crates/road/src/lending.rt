@@ -26,15 +26,30 @@ impl<'a> Graph<'a> {
         starts[tail] as usize..starts[tail + 1] as usize
     }
 
-    // Whether an arc leads from u to v. The heads of one tail ascend.
+    // Whether an arc leads from u to v. The heads of one tail ascend, so its row is halved until v is
+    // met or nothing is left.
     pub fn joined(&self, u: usize, v: u32) -> bool
         requires sorted { Sorted self.now.starts.now self.now.heads.now }
         requires u_bound { u < nodes_of self.now.starts.now }
         ensures { Tells result (Joined self.now.starts.now self.now.heads.now u v) }
     {
-        let Range { start, end } = self.row(u);
+        // By hand: with the library's binary search a drive takes half as long again to thin.
         let heads = self.heads;
-        heads[start..end].binary_search(&v).is_ok()
+        let row = self.row(u);
+        let mut low = row.start;
+        let mut high = row.end;
+        while low < high {
+            let middle = low + (high - low) / 2;
+            if heads[middle] == v {
+                return true;
+            }
+            if heads[middle] < v {
+                low = middle + 1;
+            } else {
+                high = middle;
+            }
+        }
+        false
     }
 }
 

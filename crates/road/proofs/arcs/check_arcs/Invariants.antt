@@ -1,6 +1,6 @@
 use Rattle.road.specs.workings.Scans.{Clear}
 use Rattle.road.specs.Roads.{nodes_of}
-use Prim.Native.Nat.{◌-◌, ◌≤◌}
+use Prim.Native.Nat.{◌≤◌}
 use Rattle.road.proofs.arcs.check_arcs.Given as goal
 
 abbrev pub invariant-loop-tail : goal.invariant-loop-tail

@@ -1,6 +1,4 @@
 use Rattle.road.specs.workings.Scans.{Entered}
-use lib.ListN.{length}
-use Prim.Native.Nat.{◌-◌}
 use Rattle.road.proofs.drive.check_drive.Given as goal
 
 abbrev pub invariant-loop-i : goal.invariant-loop-i
