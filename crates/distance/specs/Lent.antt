@@ -5,8 +5,8 @@ use Rattle.distance.specs.declared.PairWork.{PairWork}
 use Rattle.distance.specs.Calls.{HandAreas, PairAreas, hand_areas, pair_areas}
 
 -- what the handheld question's work holds
-abbrev pub hand_held : HandWork → HandAreas
-hand_held w = hand_areas w.labels.now w.heap.now w.places.now w.touched.now w.blocked.now
+abbrev pub hand_areas_of : HandWork → HandAreas
+hand_areas_of w = hand_areas w.labels.now w.heap.now w.places.now w.touched.now w.blocked.now
 
 -- its slices are the same slices, whatever they hold
 pub record SameHand (old new : HandWork) : Type 0 where
@@ -17,8 +17,8 @@ pub record SameHand (old new : HandWork) : Type 0 where
   pub blocked : new.blocked.ghost_name ≡ old.blocked.ghost_name
 
 -- what the any-pair question's work holds
-abbrev pub pair_held : PairWork → PairAreas
-pair_held w =
+abbrev pub pair_areas_of : PairWork → PairAreas
+pair_areas_of w =
     pair_areas w.starts.now w.heads.now w.weights.now w.outward.now w.inward.now w.labels.now w.heap.now w.places.now w.touched.now w.blocked.now
 
 -- its slices too

@@ -2,10 +2,10 @@
 // and left zero.
 ghost use Rattle.std.specs.Prelude.{◌≡◌, ◌<◌, length, replicate};
 ghost use Rattle.paths.specs.Least.{Told};
-ghost use Rattle.road.specs.Lent.{SameSlices};
-ghost use Rattle.road.specs.Roads.{nodes_of, road};
+ghost use Rattle.road.specs.Lent.{SameSlices, road_of};
+ghost use Rattle.road.specs.Roads.{nodes_of};
 ghost use Rattle.distance.specs.Calls.{hand_cleared, pair_cleared};
-ghost use Rattle.distance.specs.Lent.{SameHand, hand_held};
+ghost use Rattle.distance.specs.Lent.{SameHand, hand_areas_of};
 ghost use Rattle.distance.specs.Questions.{AnyPair, Handheld};
 ghost use Rattle.distance.specs.workings.Labels.{RowsAsked, RowsFound, label_of};
 ghost use Rattle.distance.specs.workings.Ready.{HandReady, PairReady, parts_held};
@@ -39,7 +39,7 @@ impl<'a> HandWork<'a> {
     pub fn search(&mut self, overlay: &Graph, from: usize)
         requires searchable { SearchableIn overlay.now self.old }
         requires from_bound { from < nodes_of overlay.now.starts.now }
-        ensures row { Row (road overlay.now.starts.now overlay.now.heads.now overlay.now.weights.now) self.old.blocked.now from self.new.labels.now }
+        ensures row { Row (road_of overlay.now) self.old.blocked.now from self.new.labels.now }
         ensures leaves { Leaves overlay.now self.old self.new }
     {
         let blocked = &mut *self.blocked;
@@ -66,9 +66,9 @@ fn clear_back(back: &mut GraphMut)
 
 // The distance in the overlay from s to t.
 pub fn ask_overlay(overlay: &Graph, s: usize, t: usize, work: &mut HandWork) -> Option<u64>
-    requires { HandReady overlay.now.starts.now overlay.now.heads.now overlay.now.weights.now s t (hand_held work.old) }
-    ensures told { Told (Handheld (road overlay.now.starts.now overlay.now.heads.now overlay.now.weights.now) s t) (label_of result) }
-    ensures cleared { hand_held work.new ≡ hand_cleared (nodes_of overlay.now.starts.now) }
+    requires { HandReady overlay.now.starts.now overlay.now.heads.now overlay.now.weights.now s t (hand_areas_of work.old) }
+    ensures told { Told (Handheld (road_of overlay.now) s t) (label_of result) }
+    ensures cleared { hand_areas_of work.new ≡ hand_cleared (nodes_of overlay.now.starts.now) }
     ensures same_slices { SameHand work.old work.new }
 {
     work.clear_queue();
@@ -91,9 +91,9 @@ fn find_rows(
     hand: &mut HandWork,
 )
     requires { RowsAsked graph.now.starts.now graph.now.heads.now graph.now.weights.now set.now s t back.old.starts.now back.old.heads.now back.old.weights.now outward.old inward.old hand.old.heap.now hand.old.places.now }
-    ensures rows_found { RowsFound (road graph.now.starts.now graph.now.heads.now graph.now.weights.now) set.now s t outward.new inward.new }
+    ensures rows_found { RowsFound (road_of graph.now) set.now s t outward.new inward.new }
     ensures asked { RowsAsked graph.now.starts.now graph.now.heads.now graph.now.weights.now set.now s t back.new.starts.now back.new.heads.now back.new.weights.now outward.new inward.new hand.new.heap.now hand.new.places.now }
-    ensures hand { hand_held hand.new ≡ hand_held hand.old }
+    ensures hand { hand_areas_of hand.new ≡ hand_areas_of hand.old }
     ensures same_back { SameSlices back.old back.new }
     ensures same_hand { SameHand hand.old hand.new }
 {
@@ -122,7 +122,7 @@ pub fn ask_pair(
     hand: &mut HandWork,
 ) -> Option<u64>
     requires { PairReady graph.now.starts.now graph.now.heads.now graph.now.weights.now set.now overlay.now.starts.now overlay.now.heads.now overlay.now.weights.now s t (parts_held back.old outward.old inward.old hand.old) }
-    ensures told { Told (AnyPair (road graph.now.starts.now graph.now.heads.now graph.now.weights.now) (road overlay.now.starts.now overlay.now.heads.now overlay.now.weights.now) set.now s t) (label_of result) }
+    ensures told { Told (AnyPair (road_of graph.now) (road_of overlay.now) set.now s t) (label_of result) }
     ensures cleared { parts_held back.new outward.new inward.new hand.new ≡ pair_cleared (nodes_of graph.now.starts.now) (length graph.now.heads.now) }
     ensures same_back { SameSlices back.old back.new }
     ensures same_hand { SameHand hand.old hand.new }

@@ -1,6 +1,6 @@
 // The two calls.
 ghost use Rattle.distance.specs.Calls.{HandOutcome, PairOutcome, said_of};
-ghost use Rattle.distance.specs.Lent.{SameHand, SamePair, hand_held, pair_held};
+ghost use Rattle.distance.specs.Lent.{SameHand, SamePair, hand_areas_of, pair_areas_of};
 
 use crate::asking::{ask_overlay, ask_pair};
 use crate::checking::{check_hand_input, check_hand_lengths, check_pair_input, check_pair_lengths};
@@ -16,7 +16,7 @@ pub fn handheld(
     t: u32,
     work: &mut HandWork,
 ) -> Result<Option<u64>, Refusal>
-    ensures outcome { HandOutcome set.now overlay.now.starts.now overlay.now.heads.now overlay.now.weights.now s t (hand_held work.old) (said_of result) (hand_held work.new) }
+    ensures outcome { HandOutcome set.now overlay.now.starts.now overlay.now.heads.now overlay.now.weights.now s t (hand_areas_of work.old) (said_of result) (hand_areas_of work.new) }
     ensures same_slices { SameHand work.old work.new }
 {
     check_hand_input(set, overlay, s, t)?;
@@ -34,7 +34,7 @@ pub fn any_pair(
     t: u32,
     work: &mut PairWork,
 ) -> Result<Option<u64>, Refusal>
-    ensures outcome { PairOutcome graph.now.starts.now graph.now.heads.now graph.now.weights.now set.now overlay.now.starts.now overlay.now.heads.now overlay.now.weights.now s t (pair_held work.old) (said_of result) (pair_held work.new) }
+    ensures outcome { PairOutcome graph.now.starts.now graph.now.heads.now graph.now.weights.now set.now overlay.now.starts.now overlay.now.heads.now overlay.now.weights.now s t (pair_areas_of work.old) (said_of result) (pair_areas_of work.new) }
     ensures same_slices { SamePair work.old work.new }
 {
     check_pair_input(graph, set, overlay, s, t)?;

@@ -3,7 +3,7 @@ ghost use Rattle.std.specs.Prelude.{◌≤◌};
 ghost use Rattle.road.specs.Faults.{lengths_fault};
 ghost use Rattle.road.specs.workings.Verdicts.{Judged, Judges};
 ghost use Rattle.distance.specs.Calls.{hand_input, hand_lengths, pair_input, pair_lengths};
-ghost use Rattle.distance.specs.Lent.{hand_held, pair_held};
+ghost use Rattle.distance.specs.Lent.{hand_areas_of, pair_areas_of};
 
 use crate::{HandWork, PairWork};
 use overlay::check_overlay;
@@ -40,7 +40,7 @@ pub fn check_pair_input(
 // Check 11 of the handheld question, over n nodes.
 pub fn check_hand_lengths(n: NodeCount, work: &HandWork) -> Result<(), Refusal>
     requires { n.0 ≤ 4096 }
-    ensures { Judged (lengths_fault (hand_lengths n.0 (hand_held work.now))) result }
+    ensures { Judged (lengths_fault (hand_lengths n.0 (hand_areas_of work.now))) result }
 {
     check_lengths(&[
         (work.labels.len(), n.0),
@@ -55,7 +55,7 @@ pub fn check_hand_lengths(n: NodeCount, work: &HandWork) -> Result<(), Refusal>
 // then what the handheld question is lent too.
 pub fn check_pair_lengths(n: NodeCount, m: ArcCount, work: &PairWork) -> Result<(), Refusal>
     requires { n.0 ≤ 4096 }
-    ensures { Judged (lengths_fault (pair_lengths n.0 m.0 (pair_held work.now))) result }
+    ensures { Judged (lengths_fault (pair_lengths n.0 m.0 (pair_areas_of work.now))) result }
 {
     check_lengths(&[
         (work.starts.len(), n.0 + 1),

@@ -1,7 +1,8 @@
 // The ways through the overlay: in at one node of the set, and out at another.
 ghost use Rattle.std.specs.Prelude.{◌≡◌, ◌<◌, length};
+ghost use Rattle.road.specs.Lent.{road_of};
 ghost use Rattle.paths.specs.Least.{Told};
-ghost use Rattle.road.specs.Roads.{nodes_of, road};
+ghost use Rattle.road.specs.Roads.{nodes_of};
 ghost use Rattle.distance.specs.workings.Labels.{Entries, Exits, Gate, Modest, Says, Small, Sum, Through, label_of};
 ghost use Rattle.distance.specs.workings.Through.{Leaves, RowsOf, SearchableIn};
 ghost use Rattle.search.specs.workings.Rows.{label_at};
@@ -43,7 +44,7 @@ fn through_entry(overlay: &Graph, ways: &Ways, hand: &mut HandWork, a: usize) ->
     requires searchable { SearchableIn overlay.now hand.old }
     requires rows { RowsOf ways.now (nodes_of overlay.now.starts.now) }
     requires a_bound { a < nodes_of overlay.now.starts.now }
-    ensures told { Told (Through (road overlay.now.starts.now overlay.now.heads.now overlay.now.weights.now) ways.now.set.now ways.now.outward.now ways.now.inward.now ways.now.s ways.now.t a) (label_of result) }
+    ensures told { Told (Through (road_of overlay.now) ways.now.set.now ways.now.outward.now ways.now.inward.now ways.now.s ways.now.t a) (label_of result) }
     ensures leaves { Leaves overlay.now hand.old hand.new }
 {
     let first = gate(ways.set, ways.outward, ways.s, a);
@@ -58,7 +59,7 @@ fn through_entry(overlay: &Graph, ways: &Ways, hand: &mut HandWork, a: usize) ->
 pub fn through_overlay(overlay: &Graph, ways: &Ways, hand: &mut HandWork) -> Option<u64>
     requires searchable { SearchableIn overlay.now hand.old }
     requires rows { RowsOf ways.now (nodes_of overlay.now.starts.now) }
-    ensures told { Told (Entries (road overlay.now.starts.now overlay.now.heads.now overlay.now.weights.now) ways.now.set.now ways.now.outward.now ways.now.inward.now ways.now.s ways.now.t (length ways.now.set.now)) (label_of result) }
+    ensures told { Told (Entries (road_of overlay.now) ways.now.set.now ways.now.outward.now ways.now.inward.now ways.now.s ways.now.t (length ways.now.set.now)) (label_of result) }
     ensures leaves { Leaves overlay.now hand.old hand.new }
 {
     let mut best = None;

@@ -34,8 +34,8 @@ areas starts heads weights labels heap places touched =
     record { starts = starts; heads = heads; weights = weights; labels = labels; heap = heap; places = places; touched = touched }
 
 -- and from the structs that hold them
-abbrev pub gathered : GraphMut → Work → Areas
-gathered rooms work =
+abbrev pub areas_of : GraphMut → Work → Areas
+areas_of rooms work =
     areas rooms.starts.now rooms.heads.now rooms.weights.now work.labels.now work.heap.now work.places.now work.touched.now
 
 -- the four slices of work are the same slices, whatever they hold

@@ -2,7 +2,7 @@
 ghost use Rattle.std.specs.Prelude.{◌≡◌, ◌⊎◌, ◌<◌, length, replicate};
 ghost use Rattle.road.specs.Lent.{SameSlices};
 ghost use Rattle.road.specs.workings.Verdicts.{Tells};
-ghost use Rattle.overlay.specs.Calls.{gathered, Outcome, said_of, SameWork};
+ghost use Rattle.overlay.specs.Calls.{areas_of, Outcome, said_of, SameWork};
 ghost use Rattle.overlay.specs.workings.Ready.{Ready};
 
 use crate::Work;
@@ -42,8 +42,8 @@ fn build(
     rooms: &mut GraphMut,
     work: &mut Work,
 ) -> Result<ArcCount, Refusal>
-    requires { Ready graph.now.starts.now graph.now.heads.now graph.now.weights.now set.now (gathered rooms.old work.old) }
-    ensures outcome { Outcome graph.now.starts.now graph.now.heads.now graph.now.weights.now set.now (gathered rooms.old work.old) (said_of result) (gathered rooms.new work.new) }
+    requires { Ready graph.now.starts.now graph.now.heads.now graph.now.weights.now set.now (areas_of rooms.old work.old) }
+    ensures outcome { Outcome graph.now.starts.now graph.now.heads.now graph.now.weights.now set.now (areas_of rooms.old work.old) (said_of result) (areas_of rooms.new work.new) }
     ensures same_rooms { SameSlices rooms.old rooms.new }
     ensures same_work { SameWork work.old work.new }
 {
@@ -71,7 +71,7 @@ pub fn overlay(
     rooms: &mut GraphMut,
     work: &mut Work,
 ) -> Result<ArcCount, Refusal>
-    ensures outcome { Outcome graph.now.starts.now graph.now.heads.now graph.now.weights.now set.now (gathered rooms.old work.old) (said_of result) (gathered rooms.new work.new) }
+    ensures outcome { Outcome graph.now.starts.now graph.now.heads.now graph.now.weights.now set.now (areas_of rooms.old work.old) (said_of result) (areas_of rooms.new work.new) }
     ensures same_rooms { SameSlices rooms.old rooms.new }
     ensures same_work { SameWork work.old work.new }
 {

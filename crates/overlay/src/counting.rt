@@ -1,8 +1,9 @@
 // How many arcs the overlay has. Nothing is written but the search's work.
 ghost use Rattle.std.specs.Prelude.{◌≡◌, ◌+◌, ◌<◌};
+ghost use Rattle.road.specs.Lent.{road_of};
 ghost use Rattle.road.specs.Roads.{nodes_of};
 ghost use Rattle.overlay.specs.Overlays.{Arcs, ArcsInAll};
-ghost use Rattle.overlay.specs.workings.Lending.{QueueStays, road_of, SearchingOf};
+ghost use Rattle.overlay.specs.workings.Lending.{QueueStays, SearchingOf};
 
 use crate::Row;
 use road::{ArcCount, Graph};

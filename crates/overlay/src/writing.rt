@@ -1,9 +1,9 @@
 // Writing the overlay, once its arcs are counted and have room.
 ghost use Rattle.std.specs.Prelude.{◌≡◌, ◌+◌, ◌<◌, length};
-ghost use Rattle.road.specs.Lent.{SameSlices};
+ghost use Rattle.road.specs.Lent.{SameSlices, road_of};
 ghost use Rattle.road.specs.Roads.{nodes_of};
 ghost use Rattle.overlay.specs.Overlays.{Arcs};
-ghost use Rattle.overlay.specs.workings.Lending.{QueueStays, road_of, SearchingOf};
+ghost use Rattle.overlay.specs.workings.Lending.{QueueStays, SearchingOf};
 ghost use Rattle.overlay.specs.workings.Writing.{Building, Enough, Light, RowWritten};
 
 use crate::Row;

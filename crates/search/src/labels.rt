@@ -1,6 +1,7 @@
 // The search. A node whose label falls waits again; when nothing waits the labels are least.
 ghost use Rattle.std.specs.Prelude.{◌≡◌, ◌+◌, ◌≤◌, ◌<◌, length, get_or};
-ghost use Rattle.road.specs.Roads.{nodes_of, road};
+ghost use Rattle.road.specs.Lent.{road_of};
+ghost use Rattle.road.specs.Roads.{nodes_of};
 ghost use Rattle.search.specs.Lent.{SameSlices};
 ghost use Rattle.search.specs.workings.Lent.{GoingOf, HeapBy, HeapOf};
 ghost use Rattle.search.specs.workings.Rows.{Asks, Row};
@@ -102,7 +103,7 @@ pub fn begin(graph: &Graph, blocked: &[u8], source: usize, labels: &mut [u64], q
 // and after.
 pub fn search(graph: &Graph, blocked: &[u8], source: usize, labels: &mut [u64], queue: &mut Queue)
     requires { Asks graph.now.starts.now graph.now.heads.now graph.now.weights.now blocked.now source labels.old queue.old.heap.now queue.old.places.now }
-    ensures row { Row (road graph.now.starts.now graph.now.heads.now graph.now.weights.now) blocked.now source labels.new }
+    ensures row { Row (road_of graph.now) blocked.now source labels.new }
     ensures heap_value { (queue.new.heap.now ≡ queue.old.heap.now) × (queue.new.places.now ≡ queue.old.places.now) }
     ensures slices { SameSlices queue.old queue.new }
 {

@@ -1,14 +1,9 @@
 -- What counting and writing speak of, of a graph and a queue as they are lent.
 use Rattle.std.specs.Prelude.{◌≡◌, List, ℕ}
-use Rattle.paths.specs.Graphs as Paths
 use Rattle.road.specs.declared.Graph.{Graph}
-use Rattle.road.specs.Roads.{road}
 use Rattle.search.specs.declared.Queue.{Queue}
 use Rattle.search.specs.Lent.{SameSlices}
 use Rattle.overlay.specs.workings.Writing.{Searching}
-
-abbrev pub road_of : Graph → Paths.Graph
-road_of graph = road graph.starts.now graph.heads.now graph.weights.now
 
 -- what counting and writing ask
 abbrev pub SearchingOf : Graph → List ℕ → List ℕ → Queue → Type 0

@@ -2,7 +2,8 @@
 use Rattle.std.specs.Prelude.{◌≡◌, List, ℕ, length}
 use Rattle.paths.specs.Graphs.{Graph}
 use Rattle.road.specs.Limits.{overlay_limits}
-use Rattle.road.specs.Roads.{nodes_of, road}
+use Rattle.road.specs.Lent as Lent
+use Rattle.road.specs.Roads.{nodes_of}
 use Rattle.road.specs.workings.Sound.{Sound}
 use Rattle.turning.specs.workings.Turning.{Turned}
 use Rattle.pieces.specs.declared.Roads.{Roads}
@@ -20,4 +21,4 @@ PrunableOver r cover = Prunable r.ahead.starts.now r.ahead.heads.now r.ahead.wei
 
 -- and what they mean
 abbrev pub road_of : Roads → Graph
-road_of r = road r.ahead.starts.now r.ahead.heads.now r.ahead.weights.now
+road_of r = Lent.road_of r.ahead

@@ -1,7 +1,8 @@
 use mathlib.Core.Path.{◌≡◌}
 use lib.ListN.{length}
 use Rattle.overlay.specs.Overlays.{Arcs}
-use Rattle.overlay.specs.workings.Lending.{QueueStays, road_of}
+use Rattle.road.specs.Lent.{road_of}
+use Rattle.overlay.specs.workings.Lending.{QueueStays}
 use Rattle.overlay.proofs.counting.count_arcs.Given as goal
 
 abbrev pub invariant-loop-tail : goal.invariant-loop-tail

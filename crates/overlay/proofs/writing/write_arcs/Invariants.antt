@@ -1,7 +1,8 @@
 use mathlib.Core.Path.{◌≡◌}
 use lib.ListN.{length}
 use Rattle.road.specs.Lent.{SameSlices}
-use Rattle.overlay.specs.workings.Lending.{QueueStays, road_of}
+use Rattle.road.specs.Lent.{road_of}
+use Rattle.overlay.specs.workings.Lending.{QueueStays}
 use Rattle.overlay.specs.workings.Writing.{Building}
 use Rattle.overlay.proofs.writing.write_arcs.Given as goal
 
