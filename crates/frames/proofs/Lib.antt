@@ -3,6 +3,9 @@ pub mod Fitting
 pub mod Laying
 pub mod Standing
 pub mod Judging
+pub mod Asking
+pub mod Taking
+pub mod Ending
 pub mod Cuts
 pub mod Unique
 pub mod Forbidden

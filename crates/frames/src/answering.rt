@@ -1,109 +1,71 @@
-// Refusals, questions and drives: what is printed for them.
-ghost use Rattle.std.specs.Prelude.{◌≡◌, false, ◌+◌, ◌*◌, ◌≤◌, length};
-ghost use Rattle.hexlines.specs.Outputs.{text_of};
-ghost use Rattle.hexlines.specs.Writers.{Wrote};
+// The lines after the arcs: questions and drives, and what is printed for them.
+ghost use Rattle.std.specs.Prelude.{◌≡◌, ◌+◌, ◌≤◌, length};
 ghost use Rattle.maps.specs.workings.Calls.{GraphFits};
-ghost use Rattle.frames.specs.workings.Held.{Answered, Thinned};
-ghost use Rattle.frames.specs.Steps.{refused_by};
+ghost use Rattle.frames.specs.Held.{MapFits, map_room};
+ghost use Rattle.frames.specs.Stages.{map_in};
+ghost use Rattle.frames.specs.Steps.{asking};
+ghost use Rattle.frames.specs.workings.Held.{Answered, Leaves, Limited, Thinned};
+ghost use Rattle.frames.specs.workings.Judging.{Judged};
 
-use crate::Done;
-use distance::DistanceAnswer;
-use drive::{ThinAnswer, thin};
-use hexlines::{write_kept, write_no_way, write_refusal, write_way};
+use crate::{Areas, Sizes};
+use drive::thin;
+use hexlines::Writer;
 use maps::find_distance;
-use road::{Refusal, number};
-
-// Prints a refusal.
-pub fn refuse(r: Refusal, line: usize, out: &mut [u8], at: usize) -> Done
-    requires { at + 9 ≤ length out.old }
-    ensures { (result.good ≡ false) × (Wrote out.old at (text_of (refused_by r line)) out.new result.at) × (result.over ≡ 0) }
-{
-    let next = write_refusal(out, at, number(r), line);
-    Done {
-        good: false,
-        over: 0,
-        at: next,
-    }
-}
+use readings::Line;
+use road::{Graph, Refusal};
 
 // Asks the any-pair question.
-pub fn answer_question(
-    line: usize,
-    starts: &[u32],
-    heads: &[u32],
-    weights: &[u32],
+fn answer_question(
+    graph: &Graph,
     set: &[u8],
-    over_starts: &[u32],
-    over_heads: &[u32],
-    over_weights: &[u32],
+    overlay: &Graph,
     a: u32,
     b: u32,
-    out: &mut [u8],
-    at: usize,
-) -> Done
-    requires graph_fits { GraphFits starts.now heads.now }
-    requires at_in_bounds { at + 29 ≤ length out.old }
-    ensures { Answered line (record { starts = starts.now; heads = heads.now; weights = weights.now; chosen = set.now; over_starts = over_starts.now; over_heads = over_heads.now; over_weights = over_weights.now }) a b result.good out.old at out.new result.at }
+    out: &mut Writer,
+) -> Result<(), Refusal>
+    requires graph_fits { GraphFits graph.now.starts.now graph.now.heads.now }
+    requires room { out.old.at + 29 ≤ length out.old.buf.now }
+    ensures { Answered (record { starts = graph.now.starts.now; heads = graph.now.heads.now; weights = graph.now.weights.now; chosen = set.now; over_starts = overlay.now.starts.now; over_heads = overlay.now.heads.now; over_weights = overlay.now.weights.now }) a b result out.old out.new }
 {
-    let found = find_distance(
-        starts,
-        heads,
-        weights,
-        set,
-        over_starts,
-        over_heads,
-        over_weights,
-        a,
-        b,
-    );
-    match found {
-        DistanceAnswer::Refused(r) => refuse(r, line, out, at),
-        DistanceAnswer::Way(d) => {
-            let next = write_way(out, at, a, b, d);
-            Done {
-                good: true,
-                over: 0,
-                at: next,
-            }
-        }
-        DistanceAnswer::NoWay => {
-            let next = write_no_way(out, at, a, b);
-            Done {
-                good: true,
-                over: 0,
-                at: next,
-            }
-        }
+    match find_distance(graph, set, overlay, a, b)? {
+        Some(d) => out.way(a, b, d),
+        None => out.no_way(a, b),
     }
+    Ok(())
 }
 
 // Thins a drive of at most 64 nodes.
-pub fn answer_drive(
-    line: usize,
-    starts: &[u32],
-    heads: &[u32],
-    weights: &[u32],
-    set: &[u8],
-    nodes: &[u32],
-    positions: &mut [u32],
-    out: &mut [u8],
-    at: usize,
-) -> Done
-    requires nodes_len_bound { (length nodes.now ≤ 64) × (length positions.old ≡ length nodes.now) }
-    requires at_in_bounds { at + 133 ≤ length out.old }
-    ensures { Thinned line starts.now heads.now weights.now set.now nodes.now result.good out.old at out.new result.at }
+fn answer_drive(graph: &Graph, set: &[u8], nodes: &[u32], out: &mut Writer) -> Result<(), Refusal>
+    requires few { length nodes.now ≤ 64 }
+    requires room { out.old.at + 133 ≤ length out.old.buf.now }
+    ensures { Thinned graph.now.starts.now graph.now.heads.now graph.now.weights.now set.now nodes.now result out.old out.new }
 {
-    let found = thin(starts, heads, weights, set, nodes, positions);
-    match found {
-        ThinAnswer::Refused(r) => refuse(r, line, out, at),
-        ThinAnswer::Thinned(count) => {
-            let end = count.0;
-            let next = write_kept(out, at, &positions[0..end]);
-            Done {
-                good: true,
-                over: 0,
-                at: next,
-            }
-        }
+    let mut room = [0u32; 64];
+    let positions = &mut room[..nodes.len()];
+    let count = thin(graph, set, nodes, positions)?;
+    out.kept(&positions[..count.0]);
+    Ok(())
+}
+
+// A line after the arcs.
+pub fn ask(
+    map: Sizes,
+    line: Line,
+    nodes: &[u32],
+    areas: &Areas,
+    out: &mut Writer,
+) -> Result<(), Refusal>
+    requires fits { MapFits map }
+    requires limited { Limited line }
+    requires nodes_len { length nodes.now ≡ 64 }
+    requires room { out.old.at + map_room ≤ length out.old.buf.now }
+    ensures { Leaves (Judged (asking (map_in map areas.now)) (Some line) nodes.now) (λ u. asking (map_in map areas.now)) result out.old out.new }
+{
+    let graph = areas.graph(map);
+    let set = &areas.set[..map.n.0];
+    match line {
+        Line::Question(a, b) => answer_question(&graph, set, &areas.overlay(map), a, b, out),
+        Line::Drive(count) => answer_drive(&graph, set, &nodes[..count], out),
+        Line::Head(..) | Line::Arc(..) => Err(Refusal::Line),
     }
 }

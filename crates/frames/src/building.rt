@@ -1,126 +1,97 @@
 // The moment of building.
-ghost use Rattle.std.specs.Prelude.{◌∷◌, ◌++◌, suc, ◌+◌, ◌*◌, ◌≤◌, length, take};
+ghost use Rattle.std.specs.Prelude.{◌≡◌, ◌∷◌, ◌++◌, ◌+◌, ◌*◌, ◌≤◌, length, IfOk};
 ghost use Rattle.hexlines.specs.Outputs.{counts, text_of};
-ghost use Rattle.hexlines.specs.Writers.{Wrote};
+ghost use Rattle.hexlines.specs.Writers.{Writes};
 ghost use Rattle.maps.specs.Lists.{arc_lines, point_lines};
+ghost use Rattle.road.specs.Lent.{SameSlices};
 ghost use Rattle.maps.specs.workings.Printing.{RowsFit};
-ghost use Rattle.frames.specs.workings.Held.{Built, BuildFits, Laid, LayFits};
+ghost use Rattle.frames.specs.workings.Held.{BuildFits, Built, Laid, LayFits};
 
-use crate::Done;
-use crate::answering::refuse;
-use cover::CoverAnswer;
-use hexlines::write_counts;
-use maps::{find_cover, find_overlay, write_arcs, write_points, write_starts};
-use overlay::OverlayAnswer;
-use road::NodeCount;
+use hexlines::Writer;
+use maps::{find_cover, find_overlay, write_arcs, write_points};
+use road::{ArcCount, Graph, GraphMut, NodeCount, Refusal};
 
 // Prints the map.
-fn print_map(
-    points: usize,
-    set: &[u8],
-    over_starts: &[u32],
-    over_heads: &[u32],
-    over_weights: &[u32],
-    n: usize,
-    out: &mut [u8],
-    at: usize,
-) -> usize
-    requires set_in_bounds { at + 11 + 7 * length set.now ≤ length out.old }
-    requires rows_fit { RowsFit over_starts.now over_heads.now over_weights.now n (at + 11 + 7 * length set.now) (length out.old) }
-    ensures { Wrote out.old at (text_of (counts points (length over_heads.now) ∷ point_lines 0 set.now ++ arc_lines over_starts.now over_heads.now over_weights.now n)) out.new result }
+fn print_map(points: NodeCount, set: &[u8], overlay: &Graph, out: &mut Writer)
+    requires set_in_bounds { out.old.at + 11 + 7 * length set.now ≤ length out.old.buf.now }
+    requires rows_fit { RowsFit overlay.now.starts.now overlay.now.heads.now overlay.now.weights.now (length set.now) (out.old.at + 11 + 7 * length set.now) (length out.old.buf.now) }
+    ensures { Writes out.old (text_of (counts points.0 (length overlay.now.heads.now) ∷ point_lines 0 set.now ++ arc_lines overlay.now.starts.now overlay.now.heads.now overlay.now.weights.now (length set.now))) out.new }
 {
-    let first = write_counts(out, at, points, over_heads.len());
-    let second = write_points(out, first, set);
-    write_arcs(out, second, n, over_starts, over_heads, over_weights)
+    out.counts(points.0, overlay.heads.len());
+    write_points(out, set);
+    write_arcs(out, set.len(), overlay);
 }
 
-// Builds the overlay of the cover and prints the map, or what refuses it.
+// Builds the overlay of the cover and prints the map.
 fn lay(
-    line: usize,
-    points: usize,
-    starts: &[u32],
-    heads: &[u32],
-    weights: &[u32],
+    points: NodeCount,
+    graph: &Graph,
+    set: &[u8],
+    rooms: &mut GraphMut,
+    out: &mut Writer,
+) -> Result<ArcCount, Refusal>
+    requires { LayFits graph.now.starts.now graph.now.heads.now set.now rooms.old.starts.now rooms.old.heads.now rooms.old.weights.now out.old }
+    ensures laid { Laid points.0 (record { starts = graph.now.starts.now; heads = graph.now.heads.now; weights = graph.now.weights.now; chosen = set.now; over_starts = rooms.new.starts.now; over_heads = rooms.new.heads.now; over_weights = rooms.new.weights.now }) result out.old out.new }
+    ensures few { IfOk result (λ over. over.0 ≤ 4096) }
+    ensures same_slices { SameSlices rooms.old rooms.new }
+{
+    let arcs = find_overlay(graph, set, rooms)?;
+    let room = rooms.lent();
+    let overlay = Graph {
+        starts: room.starts,
+        heads: &room.heads[..arcs.0],
+        weights: &room.weights[..arcs.0],
+    };
+    print_map(points, set, &overlay, out);
+    Ok(arcs)
+}
+
+// The same, the room for the overlay being three slices.
+fn lay_in(
+    points: NodeCount,
+    graph: &Graph,
     set: &[u8],
     over_starts: &mut [u32],
     over_heads: &mut [u32],
     over_weights: &mut [u32],
-    out: &mut [u8],
-    at: usize,
-) -> Done
-    requires { LayFits starts.now heads.now set.now over_starts.old over_heads.old over_weights.old at out.old }
-    ensures { Laid line points result.good (record { starts = starts.now; heads = heads.now; weights = weights.now; chosen = set.now; over_starts = over_starts.new; over_heads = take result.over over_heads.new; over_weights = take result.over over_weights.new }) result.over out.old at out.new result.at }
+    out: &mut Writer,
+) -> Result<ArcCount, Refusal>
+    requires { LayFits graph.now.starts.now graph.now.heads.now set.now over_starts.old over_heads.old over_weights.old out.old }
+    ensures laid { Laid points.0 (record { starts = graph.now.starts.now; heads = graph.now.heads.now; weights = graph.now.weights.now; chosen = set.now; over_starts = over_starts.new; over_heads = over_heads.new; over_weights = over_weights.new }) result out.old out.new }
+    ensures few { IfOk result (λ over. over.0 ≤ 4096) }
 {
-    let laid = find_overlay(
-        starts,
-        heads,
-        weights,
-        set,
-        over_starts,
+    let mut rooms = GraphMut {
+        starts: over_starts,
+        heads: over_heads,
+        weights: over_weights,
+    };
+    lay(points, graph, set, &mut rooms, out)
+}
+
+// Prunes in ascending node order, builds the overlay and prints the map.
+pub fn build(
+    graph: &Graph,
+    k: NodeCount,
+    set: &mut [u8; 512],
+    over_starts: &mut [u32; 513],
+    over_heads: &mut [u32; 4096],
+    over_weights: &mut [u32; 4096],
+    out: &mut Writer,
+) -> Result<ArcCount, Refusal>
+    requires { BuildFits graph.now.starts.now graph.now.heads.now out.old }
+    ensures built { Built k.0 (record { starts = graph.now.starts.now; heads = graph.now.heads.now; weights = graph.now.weights.now; chosen = set.new; over_starts = over_starts.new; over_heads = over_heads.new; over_weights = over_weights.new }) result out.old out.new }
+    ensures few { IfOk result (λ over. over.0 ≤ 4096) }
+{
+    let end = graph.starts.len();
+    let n = end - 1;
+    let points = find_cover(graph, k, &mut set[..n])?;
+    lay_in(
+        points,
+        graph,
+        &set[..n],
+        &mut over_starts[..end],
         over_heads,
         over_weights,
-    );
-    match laid {
-        OverlayAnswer::Refused(r) => refuse(r, line, out, at),
-        OverlayAnswer::Built(arcs) => {
-            let count = arcs.0;
-            let n = starts.len() - 1;
-            let next = print_map(
-                points,
-                set,
-                over_starts,
-                &over_heads[0..count],
-                &over_weights[0..count],
-                n,
-                out,
-                at,
-            );
-            Done {
-                good: true,
-                over: count,
-                at: next,
-            }
-        }
-    }
-}
-
-// Prunes in ascending node order, builds the overlay and prints the map, or what refuses it.
-pub fn build(
-    line: usize,
-    k: NodeCount,
-    tails: &[u32],
-    heads: &[u32],
-    weights: &[u32],
-    starts: &mut [u32],
-    set: &mut [u8],
-    over_starts: &mut [u32],
-    over_heads: &mut [u32],
-    over_weights: &mut [u32],
-    out: &mut [u8],
-    at: usize,
-) -> Done
-    requires { BuildFits tails.now heads.now starts.old set.old over_starts.old over_heads.old over_weights.old at out.old }
-    ensures { Built line tails.now heads.now weights.now k.0 (length starts.old) result.good (record { starts = starts.new; heads = heads.now; weights = weights.now; chosen = set.new; over_starts = over_starts.new; over_heads = take result.over over_heads.new; over_weights = take result.over over_weights.new }) result.over out.old at out.new result.at }
-{
-    write_starts(tails, starts);
-    let covered = find_cover(starts, heads, weights, k, set);
-    match covered {
-        CoverAnswer::Refused(r) => refuse(r, line, out, at),
-        CoverAnswer::Covered(points) => {
-            let count = points.0;
-            lay(
-                line,
-                count,
-                starts,
-                heads,
-                weights,
-                set,
-                over_starts,
-                over_heads,
-                over_weights,
-                out,
-                at,
-            )
-        }
-    }
+        out,
+    )
 }

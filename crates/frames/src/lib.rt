@@ -3,45 +3,55 @@
 
 mod answering;
 mod building;
+mod lending;
+mod loading;
 mod steps;
 
 use road::{ArcCount, NodeCount};
 pub use steps::{first, take_end, take_line, take_unended};
 
-// How far the program is.
+// A graph that is being read: the head's numbers, and how many arcs are read.
 #[derive(Clone, Copy)]
-pub enum Phase {
-    Begun,
-    Loading,
-    Asking,
-    Stopped,
-}
-
-// What it keeps from line to line beside the lent areas: the lines read, the head's numbers, how
-// many arcs are read, and how many the overlay has.
-#[derive(Clone, Copy)]
-pub struct State {
-    pub phase: Phase,
-    pub lines: usize,
+pub struct Load {
     pub n: NodeCount,
     pub m: ArcCount,
     pub k: NodeCount,
     pub count: ArcCount,
+}
+
+// The sizes of a map: its nodes, its arcs, and the arcs of its overlay.
+#[derive(Clone, Copy)]
+pub struct Sizes {
+    pub n: NodeCount,
+    pub m: ArcCount,
     pub over: ArcCount,
 }
 
-// The state after a line, and where the output goes on.
+// How far the program is.
 #[derive(Clone, Copy)]
-pub struct Taken {
-    pub state: State,
-    pub at: usize,
+pub enum Phase {
+    Begun,
+    Loading(Load),
+    Asking(Sizes),
+    Stopped,
 }
 
-// Whether the map was built, or an answer given, rather than refused; how many arcs the overlay
-// has; where the output goes on.
+// What it keeps from line to line beside the areas: how far it is, and how many lines are read.
 #[derive(Clone, Copy)]
-pub struct Done {
-    pub good: bool,
-    pub over: usize,
-    pub at: usize,
+pub struct State {
+    pub phase: Phase,
+    pub lines: usize,
+}
+
+// What the program is lent, each at its limit: the arcs as they are read, their starts, the cover
+// and the overlay. What is read or built stands at the front of each.
+pub struct Areas {
+    pub tails: [u32; 2048],
+    pub heads: [u32; 2048],
+    pub weights: [u32; 2048],
+    pub starts: [u32; 513],
+    pub set: [u8; 512],
+    pub over_starts: [u32; 513],
+    pub over_heads: [u32; 4096],
+    pub over_weights: [u32; 4096],
 }

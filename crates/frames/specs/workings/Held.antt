@@ -1,42 +1,60 @@
 -- What the code is asked for, and what it leaves.
-use Rattle.std.specs.Prelude.{◌≡◌, Bool, List, ℕ, ◌+◌, ◌≤◌, length}
+use Rattle.std.specs.Prelude.{◌≡◌, List, ℕ, ◌+◌, ◌≤◌, length, take, Result, Ok, Err}
+use Rattle.road.specs.declared.ArcCount.{ArcCount}
+use Rattle.road.specs.declared.Refusal.{Refusal}
 use Rattle.road.specs.Chains.{cover_faults}
 use Rattle.road.specs.Counting.{times}
 use Rattle.road.specs.Refusals.{None}
 use Rattle.road.specs.Roads.{nodes_of, road}
 use Rattle.rule.specs.Rule.{PathOf, Pruned}
 use Rattle.hexlines.specs.Outputs.{Out, text_of}
-use Rattle.hexlines.specs.Writers.{Wrote}
-use Rattle.maps.specs.Lists.{belows, numbers}
+use Rattle.hexlines.specs.Writers.{Writes}
+use Rattle.hexlines.specs.declared.Writer.{Writer}
+use Rattle.maps.specs.Lists.{numbers, starts_of}
 use Rattle.readings.specs.declared.Line.{Line}
-use Rattle.readings.specs.declared.Line.TheVariants.{Head, Arc, Question, Drive, Wrong}
-use Rattle.frames.specs.Steps.{Map, Builds, Answers, Thins}
-use Rattle.frames.specs.Held.{stage_if, Printed, map_room}
+use Rattle.readings.specs.declared.Line.TheVariants.{Head, Arc, Question, Drive}
+use Rattle.frames.specs.declared.Areas.{Areas}
+use Rattle.frames.specs.declared.Load.{Load}
+use Rattle.frames.specs.declared.Phase.{Phase}
+use Rattle.frames.specs.declared.Phase.TheVariants.{Begun, Loading, Asking, Stopped}
+use Rattle.frames.specs.Steps.{Map, Stage, asking, stopped, Builds, Loads, Answers, Thins, refused_by}
+use Rattle.frames.specs.Held.{Counted, Within, map_room}
 
--- a question is answered, or refused, and that is printed
-abbrev pub Answered : ℕ → Map → ℕ → ℕ → Bool → List ℕ → ℕ → List ℕ → ℕ → Type 0
-Answered ℓ M a b good = Printed (Answers ℓ M a b) (stage_if good M)
+-- what a step does at any line's number: a stage and lines of which P holds, the lines being printed
+pub record Prints (P : ℕ → Stage → List Out → Type 0) (after : Stage) (w w' : Writer) : Type 0 where
+  pub outs : List Out
+  pub does : (ℓ : ℕ) → P ℓ after outs
+  pub wrote : Writes w (text_of outs) w'
+
+-- it is refused, P holding of the refusal's line, and nothing is printed yet
+pub record Refuses (P : ℕ → Stage → List Out → Type 0) (r : Refusal) (w w' : Writer) : Type 0 where
+  pub does : (ℓ : ℕ) → P ℓ stopped (refused_by r ℓ)
+  pub same : w' ≡ w
+
+-- one or the other, by the answer, which tells the stage after
+abbrev pub Leaves : {A : Type 0} → (ℕ → Stage → List Out → Type 0) → (A → Stage) → Result A Refusal → Writer → Writer → Type 0
+Leaves P after (Ok a) w w' = Prints P (after a) w w'
+Leaves P after (Err r) w w' = Refuses P r w w'
+
+-- a question is answered, or refused
+abbrev pub Answered : Map → ℕ → ℕ → Result (Unit {0}) Refusal → Writer → Writer → Type 0
+Answered M a b = Leaves (λ ℓ. Answers ℓ M a b) (λ u. asking M)
 
 -- the same of a drive, whatever the overlay
-pub record Thinned (ℓ : ℕ) (starts heads weights chosen nodes : List ℕ) (good : Bool) (out : List ℕ) (at : ℕ) (out' : List ℕ) (at' : ℕ) : Type 0 where
-  pub outs : List Out
-  pub does : (M : Map) → M.starts ≡ starts → M.heads ≡ heads → M.weights ≡ weights → M.chosen ≡ chosen → Thins ℓ M nodes (stage_if good M) outs
-  pub wrote : Wrote out at (text_of outs) out' at'
+pub record Thinned (starts heads weights chosen nodes : List ℕ) (answer : Result (Unit {0}) Refusal) (w w' : Writer) : Type 0 where
+  pub each :
+      (M : Map) → M.starts ≡ starts → M.heads ≡ heads → M.weights ≡ weights → M.chosen ≡ chosen →
+      Leaves (λ ℓ. Thins ℓ M nodes) (λ u. asking M) answer w w'
 
 -- lengths that fit one another and the program's limits, and room for the map's lines
-pub record BuildFits (tails heads starts chosen starts' heads' weights' : List ℕ) (at : ℕ) (out : List ℕ) : Type 0 where
+pub record BuildFits (starts heads : List ℕ) (w : Writer) : Type 0 where
   pub some : 1 ≤ length starts
   pub nodes : length starts ≤ 513
   pub arcs : length heads ≤ 2048
-  pub tails_few : length tails ≤ 2048
-  pub bytes : length chosen ≡ nodes_of starts
-  pub over_long : length starts' ≡ nodes_of starts + 1
-  pub room : length heads' ≡ 4096
-  pub rooms : length weights' ≡ 4096
-  pub space : at + map_room ≤ length out
+  pub space : w.at + map_room ≤ length w.buf.now
 
--- the same once the starts and the cover are there
-pub record LayFits (starts heads chosen starts' heads' weights' : List ℕ) (at : ℕ) (out : List ℕ) : Type 0 where
+-- the same once the cover is there
+pub record LayFits (starts heads chosen starts' heads' weights' : List ℕ) (w : Writer) : Type 0 where
   pub some : 1 ≤ length starts
   pub nodes : length starts ≤ 513
   pub arcs : length heads ≤ 2048
@@ -44,25 +62,66 @@ pub record LayFits (starts heads chosen starts' heads' weights' : List ℕ) (at 
   pub over_long : length starts' ≡ nodes_of starts + 1
   pub room : length heads' ≡ 4096
   pub rooms : length weights' ≡ 4096
-  pub space : at + map_room ≤ length out
+  pub space : w.at + map_room ≤ length w.buf.now
 
--- the overlay of a cover is built and the map printed, or what refuses it
-pub record Laid (ℓ points : ℕ) (good : Bool) (M : Map) (over : ℕ) (out : List ℕ) (at : ℕ) (out' : List ℕ) (at' : ℕ) : Type 0 where
-  pub outs : List Out
-  pub does :
+-- the map whose overlay's arcs stand at the front of their slices
+abbrev pub map_over : Map → ArcCount → Map
+map_over M over =
+    record {
+      starts = M.starts;
+      heads = M.heads;
+      weights = M.weights;
+      chosen = M.chosen;
+      over_starts = M.over_starts;
+      over_heads = take over.0 M.over_heads;
+      over_weights = take over.0 M.over_weights;
+    }
+
+-- the overlay of a cover is built and the map printed, or it is refused
+pub record Laid (points : ℕ) (M : Map) (answer : Result ArcCount Refusal) (w w' : Writer) : Type 0 where
+  pub each :
       (k : ℕ) → None (cover_faults M.starts M.heads M.weights k (numbers 0 (nodes_of M.starts))) →
-      Pruned (PathOf (road M.starts M.heads M.weights) k) (nodes_of M.starts) (numbers 0 (nodes_of M.starts)) M.chosen →
-      points ≡ times 1 M.chosen → Builds ℓ M.starts M.heads M.weights k (stage_if good M) outs
-  pub few : over ≤ 4096
-  pub wrote : Wrote out at (text_of outs) out' at'
+      Pruned (PathOf (road M.starts M.heads M.weights) k) (nodes_of M.starts) (numbers 0 (nodes_of M.starts)) M.chosen → points ≡ times 1 M.chosen →
+      Leaves (λ ℓ. Builds ℓ M.starts M.heads M.weights k) (λ over. asking (map_over M over)) answer w w'
 
--- the map is built and printed, or what refuses it
-pub record Built
-    (ℓ : ℕ) (tails heads weights : List ℕ) (k : ℕ) (size : ℕ) (good : Bool) (M : Map) (over : ℕ) (out : List ℕ) (at : ℕ) (out' : List ℕ) (at' : ℕ) : Type 0 where
-  pub outs : List Out
-  pub does : Builds ℓ (belows tails 0 size) heads weights k (stage_if good M) outs
-  pub few : over ≤ 4096
-  pub wrote : Wrote out at (text_of outs) out' at'
+-- the map whose cover and overlay stand at the front of their slices
+abbrev pub map_front : Map → ArcCount → Map
+map_front M over =
+    record {
+      starts = M.starts;
+      heads = M.heads;
+      weights = M.weights;
+      chosen = take (nodes_of M.starts) M.chosen;
+      over_starts = take (length M.starts) M.over_starts;
+      over_heads = take over.0 M.over_heads;
+      over_weights = take over.0 M.over_weights;
+    }
+
+-- the map is built and printed, or that is refused
+abbrev pub Built : ℕ → Map → Result ArcCount Refusal → Writer → Writer → Type 0
+Built k M = Leaves (λ ℓ. Builds ℓ M.starts M.heads M.weights k) (λ over. asking (map_front M over))
+
+-- the moment of building, with the arcs at the front of the areas
+abbrev pub builds_in : Load → Areas → ℕ → Stage → List Out → Type 0
+builds_in load A ℓ =
+    Builds ℓ (starts_of load.n.0 (take load.m.0 A.tails)) (take load.m.0 A.heads) (take load.m.0 A.weights) load.k.0
+
+-- the moment after the head or an arc
+abbrev pub loads_in : Load → Areas → ℕ → Stage → List Out → Type 0
+loads_in load A ℓ =
+    Loads ℓ load.n.0 load.m.0 load.k.0 (take load.count.0 A.tails) (take load.count.0 A.heads) (take load.count.0 A.weights)
+
+-- the number of the line that comes next
+abbrev pub Next : Phase → ℕ → Type 0
+Next Begun ℓ = ℓ ≡ 1
+Next (Loading load) ℓ = ℓ ≡ load.count.0 + 2
+Next (Asking map) ℓ = Unit {0}
+Next Stopped ℓ = Unit {0}
+
+-- a phase within its limits, and that its counts are right after a line of whose number C holds
+pub record Kept (C : ℕ → Type 0) (p : Phase) : Type 0 where
+  pub within : Within p
+  pub counted : (ℓ : ℕ) → C ℓ → Counted p ℓ
 
 -- the numbers that are read are within the program's limits
 abbrev pub Limited : Line → Type 0
@@ -70,7 +129,3 @@ Limited (Head n m k) = (n.0 ≤ 512) × (m.0 ≤ 2048)
 Limited (Arc t h w) = Unit {0}
 Limited (Question a b) = Unit {0}
 Limited (Drive count) = count ≤ 64
-Limited Wrong = Unit {0}
-
-pub record ReadFits (read : Line) : Type 0 where
-  pub limited : Limited read

@@ -1,13 +1,22 @@
-use Rattle.frames.proofs.Laying.{print_fits, laid_refused, laid_built}
-use mathlib.Core.List.{[]}
-use mathlib.Core.Path.{◌∙◌}
+use Rattle.std.proofs.lemmas.Result.{err_from_is_err_and}
+use Rattle.frames.proofs.Laying.{laid_refused, laid_built, made_few, print_fits}
 use Rattle.frames.proofs.building.lay.Goals as goal
 
-pub print_map-next-requires-clause-rows_fit : goal.print_map-next-requires-clause-rows_fit
-print_map-next-requires-clause-rows_fit c = print_fits c.args.starts.now c.args.heads.now c.args.weights.now c.args.set.now _ c.args.over_heads.now _ c.requires.room c.args.line _ _ _ _ c.find_overlay-laid.ensures c.args.out.now c.args.at [] 0 _ c.in-Built.is c.find_overlay-laid.auto.over_heads (c.find_overlay-laid.auto.over_weights ∙ c.requires.rooms) c.requires
+pub returns-in_err-arcs-clause-laid : goal.returns-in_err-arcs-clause-laid
+returns-in_err-arcs-clause-laid c =
+    let p = err_from_is_err_and c.from_residual.result c.from_residual.ensures.1 in
+    rw (p.1, p.2) (laid_refused _ _ _ _ _ _ _ c.requires.room _ _ _ _ _ _ c.in_err-arcs.ensures.found)
 
-pub returns-in-Refused : goal.returns-in-Refused
-returns-in-Refused c = laid_refused c.args.starts.now c.args.heads.now c.args.weights.now c.args.set.now _ c.args.over_heads.now _ c.requires.room c.args.line _ _ _ _ c.find_overlay-laid.ensures _ _ _ _ _ _ _ _ c.in-Refused.is c.refuse.ensures
+pub print_map-requires-clause-rows_fit : goal.print_map-requires-clause-rows_fit
+print_map-requires-clause-rows_fit c =
+    let e = c.lent-room.ensures in
+    print_fits _ _ _ _ _ _ _ c.requires.room c.in_ok-arcs.arcs _ _ _ c.in_ok-arcs.ensures.found _ c.requires _ _ _ e.starts e.heads e.weights
 
-pub returns-in-Built : goal.returns-in-Built
-returns-in-Built c = laid_built c.args.starts.now c.args.heads.now c.args.weights.now c.args.set.now _ c.args.over_heads.now _ c.requires.room c.args.line _ _ _ _ c.find_overlay-laid.ensures c.args.out.now c.args.at _ _ _ c.in-Built.is c.find_overlay-laid.auto.over_heads (c.find_overlay-laid.auto.over_weights ∙ c.requires.rooms) _ c.print_map-next.ensures
+pub returns-clause-laid : goal.returns-clause-laid
+returns-clause-laid c =
+    let e = c.lent-room.ensures in
+    laid_built _ _ _ _ _ _ _ c.requires.room c.in_ok-arcs.arcs _ _ _ c.in_ok-arcs.ensures.found _ _ _ _ _ _ e.starts e.heads e.weights c.requires.bytes
+    c.print_map.ensures
+
+pub returns-clause-few : goal.returns-clause-few
+returns-clause-few c = (made_few _ _ _ _ _ _ _ c.requires.room c.in_ok-arcs.arcs _ _ _ c.in_ok-arcs.ensures.found).2

@@ -1,12 +1,9 @@
-use Rattle.frames.proofs.Standing.{end_first, end_arc, end_good}
 use native.Mathlib.Omega.{arith}
+use Rattle.frames.proofs.Ending.{end_early, end_good}
 use Rattle.frames.proofs.steps.take_end.Goals as goal
 
 pub returns-in-Begun : goal.returns-in-Begun
-returns-in-Begun c = end_first _ _ _ _ _ _ c.in-Begun.is c.stop.ensures
-
-pub returns-in-Loading : goal.returns-in-Loading
-returns-in-Loading c = end_arc _ _ _ _ _ _ c.in-Loading.is c.stop-in-Loading.ensures
+returns-in-Begun c = end_early _ _ _ _ c.in-Begun.is c.stop.ensures
 
 pub returns-in-Asking : goal.returns-in-Asking
-returns-in-Asking c = end_good _ _ _ _ c.in-Asking.is c.stopped.ensures.good c.stopped.ensures.phase_value (omega (arith, c.requires.at_in_bounds))
+returns-in-Asking c = end_good _ _ c.requires.going c.requires.good.lines c.in-Asking.is (omega (arith, c.requires.room))

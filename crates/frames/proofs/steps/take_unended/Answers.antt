@@ -1,9 +1,5 @@
-use Rattle.frames.proofs.Standing.{unended_beyond, unended_cut}
-use native.Mathlib.Omega.{arith}
+use Rattle.frames.proofs.Ending.{unended_cut}
 use Rattle.frames.proofs.steps.take_unended.Goals as goal
 
-pub returns-then-line-gt65535 : goal.returns-then-line-gt65535
-returns-then-line-gt65535 c = unended_beyond _ _ _ _ _ _ c.requires.phase_value c.if-line-gt65535.true c.stop.ensures
-
 pub returns : goal.returns
-returns c = unended_cut _ _ _ _ _ _ c.requires.phase_value (omega (arith, c.if-line-gt65535.false)) c.stop-2.ensures
+returns c = unended_cut c.args.s _ _ _ c.requires.going _ c.min.ensures c.stop.ensures
