@@ -1,18 +1,19 @@
 -- Check 5: nodes marked as they are met.
-use mathlib.Core.Path.{◌≡◌, sym, ap, subst, ◌∙◌}
+use mathlib.Core.Path.{◌≡◌, refl, sym, ap, subst, ◌∙◌}
+use mathlib.Core.Bool.{Bool, true, false}
 use mathlib.Core.Logic.{◌⊎◌, inl, inr, ◌≢◌}
 use mathlib.Core.List.{List, [], ◌∷◌}
 use Prim.Native.Nat.{ℕ, zero, suc, ◌+◌, ◌≤◌, ◌<◌}
 use native.Mathlib.Decide.{ℕ_discrete}
 use native.Mathlib.Omega.{arith}
 use borrow.Author.Count.{below_more}
+use borrow.Author.Tests.{clash}
 use lib.ListN.{length, get_or, set, replicate, length-set, length-replicate}
 use lib.Seq.{get_or-set_same, get_or-set_other}
 use Rattle.paths.specs.Lists.{Mem, Different, Each}
 use Rattle.paths.proofs.Lists.{mem?, mem_at, place_of, each_mem, mem_each, few, many, full}
 use Rattle.road.specs.Faults.{Permutation}
 use Rattle.road.proofs.Faults.{not_over}
-use Rattle.road.proofs.Filled.{zeros_at}
 
 -- different places of different nodes
 pub different_at : (l : List ℕ) → Different l → (i j : ℕ) → i < j → j < length l → get_or l i 0 ≡ get_or l j 0 → ⊥
@@ -29,66 +30,71 @@ different_of (x ∷ l) f = (fresh, different_of l (λ i j h k e. f (suc i) (suc 
     fresh : Mem x l → ⊥
     fresh m = let p = place_of x l m in f 0 (suc p.0) (omega arith) (omega (arith, p.1)) (sym p.2)
 
+clear_at : (n i : ℕ) → get_or (replicate n false) i false ≡ false
+clear_at zero i = refl
+clear_at (suc n) zero = refl
+clear_at (suc n) (suc i) = clear_at n i
+
 -- the first i of the order are nodes and different, and exactly they are marked
-pub record Marked (n : ℕ) (order : List ℕ) (i : ℕ) (seen : List ℕ) : Type 0 where
+pub record Marked (n : ℕ) (order : List ℕ) (i : ℕ) (seen : List Bool) : Type 0 where
   pub long : length seen ≡ 4096
   pub within : i ≤ length order
   pub nodes : (j : ℕ) → j < i → get_or order j 0 < n
   pub apart : (j k : ℕ) → j < k → k < i → get_or order j 0 ≡ get_or order k 0 → ⊥
-  pub marked : (j : ℕ) → j < i → get_or seen (get_or order j 0) 0 ≢ 0
-  pub met : (v : ℕ) → get_or seen v 0 ≢ 0 → (j : ℕ) × (j < i) × (get_or order j 0 ≡ v)
+  pub marked : (j : ℕ) → j < i → get_or seen (get_or order j 0) false ≡ true
+  pub met : (v : ℕ) → get_or seen v false ≡ true → (j : ℕ) × (j < i) × (get_or order j 0 ≡ v)
 
-pub mark_none : (n : ℕ) (order : List ℕ) → Marked n order 0 (replicate 4096 0)
+pub mark_none : (n : ℕ) (order : List ℕ) → Marked n order 0 (replicate 4096 false)
 mark_none n order =
     record {
-      long = length-replicate {A = ℕ} 4096 0;
+      long = length-replicate 4096 false;
       within = omega arith;
       nodes = λ j h. omega arith;
       apart = λ j k h l e. omega arith;
-      marked = λ j h e. omega arith;
-      met = λ v h. absurd (h (zeros_at 4096 v));
+      marked = λ j h. absurd (omega arith);
+      met = λ v h. absurd (clash (sym (clear_at 4096 v) ∙ h));
     }
 
-module _ (n : ℕ) (order : List ℕ) (i : ℕ) (seen : List ℕ) (m : Marked n order i seen) (node : get_or order i 0 < n) (small : n ≤ 4096) where
-  new_marks : List ℕ
-  new_marks = set seen (get_or order i 0) 1
+module _ (n : ℕ) (order : List ℕ) (i : ℕ) (seen : List Bool) (m : Marked n order i seen) (node : get_or order i 0 < n) (small : n ≤ 4096) where
+  new_marks : List Bool
+  new_marks = set seen (get_or order i 0) true
 
-  still_marked : (v : ℕ) → get_or seen v 0 ≢ 0 → get_or new_marks v 0 ≢ 0
+  still_marked : (v : ℕ) → get_or seen v false ≡ true → get_or new_marks v false ≡ true
   unfolding new_marks
   still_marked v h = by (ℕ_discrete v (get_or order i 0))
     where
-      by : Dec (v ≡ get_or order i 0) → get_or (set seen (get_or order i 0) 1) v 0 ≢ 0
-      by (yes e) = λ z. omega (arith, get_or-set_same seen (get_or order i 0) 1 0 (omega (arith, m.long)), ap (λ (y : ℕ). get_or (set seen (get_or order i 0) 1) y 0) e)
-      by (no d) = λ z. h (sym (get_or-set_other seen (get_or order i 0) v 1 0 d) ∙ z)
+      by : Dec (v ≡ get_or order i 0) → get_or (set seen (get_or order i 0) true) v false ≡ true
+      by (yes e) = ap (λ (y : ℕ). get_or (set seen (get_or order i 0) true) y false) e ∙ get_or-set_same seen (get_or order i 0) true false (omega (arith, m.long))
+      by (no d) = get_or-set_other seen (get_or order i 0) v true false d ∙ h
 
-  pub mark_more : i < length order → get_or seen (get_or order i 0) 0 ≡ 0 → Marked n order (i + 1) (set seen (get_or order i 0) 1)
+  pub mark_more : i < length order → get_or seen (get_or order i 0) false ≡ false → Marked n order (i + 1) (set seen (get_or order i 0) true)
   unfolding new_marks
   mark_more h fresh =
       record {
-        long = length-set seen (get_or order i 0) 1 ∙ m.long;
+        long = length-set seen (get_or order i 0) true ∙ m.long;
         within = omega arith;
         nodes = below_more (λ (j : ℕ). get_or order j 0 < n) i m.nodes node;
         apart = λ j k a b. by_last j k a (ℕ_discrete k i) b;
-        marked = below_more (λ (j : ℕ). get_or (set seen (get_or order i 0) 1) (get_or order j 0) 0 ≢ 0) i (λ j l. still_marked (get_or order j 0) (m.marked j l)) here;
+        marked = below_more (λ (j : ℕ). get_or (set seen (get_or order i 0) true) (get_or order j 0) false ≡ true) i (λ j l. still_marked (get_or order j 0) (m.marked j l)) here;
         met = λ v z. by_node v (ℕ_discrete v (get_or order i 0)) z;
       }
     where
-      here : get_or (set seen (get_or order i 0) 1) (get_or order i 0) 0 ≢ 0
-      here z = omega (arith, get_or-set_same seen (get_or order i 0) 1 0 (omega (arith, m.long)))
+      here : get_or (set seen (get_or order i 0) true) (get_or order i 0) false ≡ true
+      here = get_or-set_same seen (get_or order i 0) true false (omega (arith, m.long))
 
       by_last : (j k : ℕ) → j < k → Dec (k ≡ i) → k < i + 1 → get_or order j 0 ≡ get_or order k 0 → ⊥
-      by_last j k a (yes e) b s = m.marked j (omega arith) (ap (λ (y : ℕ). get_or seen y 0) (s ∙ ap (λ (y : ℕ). get_or order y 0) e) ∙ fresh)
+      by_last j k a (yes e) b s = clash (sym fresh ∙ sym (ap (λ (y : ℕ). get_or seen y false) (s ∙ ap (λ (y : ℕ). get_or order y 0) e)) ∙ m.marked j (omega arith))
       by_last j k a (no d) b s = m.apart j k a (omega (arith, d)) s
 
-      by_node : (v : ℕ) → Dec (v ≡ get_or order i 0) → get_or (set seen (get_or order i 0) 1) v 0 ≢ 0 → (j : ℕ) × (j < i + 1) × (get_or order j 0 ≡ v)
+      by_node : (v : ℕ) → Dec (v ≡ get_or order i 0) → get_or (set seen (get_or order i 0) true) v false ≡ true → (j : ℕ) × (j < i + 1) × (get_or order j 0 ≡ v)
       by_node v (yes e) z = (i, omega arith, sym e)
       by_node v (no d) z =
-          let old = m.met v (λ w. z (get_or-set_other seen (get_or order i 0) v 1 0 d ∙ w)) in
+          let old = m.met v (sym (get_or-set_other seen (get_or order i 0) v true false d) ∙ z) in
           (old.0, omega (arith, old.1), old.2)
 
 module _ (n : ℕ) (order : List ℕ) where
   -- a node that is marked already stands twice
-  pub repeats : (i : ℕ) (seen : List ℕ) → Marked n order i seen → i < length order → get_or seen (get_or order i 0) 0 ≢ 0 → Permutation n order → ⊥
+  pub repeats : (i : ℕ) (seen : List Bool) → Marked n order i seen → i < length order → get_or seen (get_or order i 0) false ≡ true → Permutation n order → ⊥
   repeats i seen m h z p = let old = m.met (get_or order i 0) z in different_at order p.once old.0 i old.1 h old.2
 
   pub no_node : (i : ℕ) → i < length order → n ≤ get_or order i 0 → Permutation n order → ⊥
@@ -97,7 +103,7 @@ module _ (n : ℕ) (order : List ℕ) where
   pub other_length : length order ≢ n → Permutation n order → ⊥
   other_length d p = d (omega (arith, few n order p.once p.only, many n order p.all))
 
-  pub permutes : (i : ℕ) (seen : List ℕ) → Marked n order i seen → length order ≤ i → length order ≡ n → Permutation n order
+  pub permutes : (i : ℕ) (seen : List Bool) → Marked n order i seen → length order ≤ i → length order ≡ n → Permutation n order
   permutes i seen m h e =
       let once : Different order = different_of order (λ j k a b s. m.apart j k a (omega arith) s) in
       let only : Each (λ (v : ℕ). v < n) order = mem_each (λ (v : ℕ). v < n) order node in

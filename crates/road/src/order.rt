@@ -14,16 +14,16 @@ pub fn check_order(n: NodeCount, order: &[u32]) -> Result<(), Refusal>
     if order.len() != n.0 {
         return Err(Refusal::Order);
     }
-    let mut seen = [0u8; 4096];
+    let mut seen = [false; 4096];
     for node in order {
         let v = *node as usize;
         if n.0 <= v {
             return Err(Refusal::Order);
         }
-        if seen[v] != 0 {
+        if seen[v] {
             return Err(Refusal::Order);
         }
-        seen[v] = 1;
+        seen[v] = true;
     }
     Ok(())
 }

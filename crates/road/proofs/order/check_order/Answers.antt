@@ -8,8 +8,8 @@ returns-then-order-n c = refuses (other_length _ _ c.if-order-n.true)
 pub loop-node-init : goal.loop-node-init
 loop-node-init c = mark_none _ _
 
-pub returns-then-seen-v-ne0 : goal.returns-then-seen-v-ne0
-returns-then-seen-v-ne0 c = refuses (repeats _ _ _ _ c.loop-node.invariant c.loop-node-test.true c.if-seen-v-ne0.true)
+pub returns-then-seen-v : goal.returns-then-seen-v
+returns-then-seen-v c = refuses (repeats _ _ _ _ c.loop-node.invariant c.loop-node-test.true c.if-seen-v.true)
 
 pub returns : goal.returns
 returns c = passes (λ f. f (permutes _ _ _ _ c.loop-node.invariant c.loop-node-test.false c.if-order-n.false))
