@@ -45,6 +45,7 @@ pub struct State {
 
 // What the program is lent, each at its limit: the arcs as they are read, their starts, the cover
 // and the overlay. What is read or built stands at the front of each.
+#[derive(Drop)]
 pub struct Areas {
     pub tails: [u32; 2048],
     pub heads: [u32; 2048],

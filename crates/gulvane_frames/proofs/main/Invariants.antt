@@ -1,8 +1,6 @@
-use Rattle.gulvane_frames.specs.workings.Runs.{Fine}
+use Rattle.frames.specs.Held.{Good}
+use Rattle.gulvane_frames.specs.workings.Runs.{Filled, Fits, Roomy}
 use Rattle.gulvane_frames.proofs.main.Given as goal
 
-abbrev pub invariant-loop-turns : goal.invariant-loop-turns
-invariant-loop-turns l = Fine l.r
-
-abbrev pub decreases-loop-turns : goal.decreases-loop-turns
-decreases-loop-turns l = l.turns
+abbrev pub invariant-loop : goal.invariant-loop
+invariant-loop l = Good l.s × Filled l.chunk × Fits l.line × Roomy l.out

@@ -1,15 +1,19 @@
 -- What the program keeps within its arrays.
-use Rattle.std.specs.Prelude.{ℕ, ◌≤◌}
-use Rattle.frames.specs.Held.{Good}
-use Rattle.gulvane_frames.specs.declared.Run.{Run}
+use Rattle.std.specs.Prelude.{◌≡◌, ◌≤◌, length}
+use Rattle.hexlines.specs.declared.Writer.{Writer}
+use Rattle.gulvane_frames.specs.declared.Chunk.{Chunk}
+use Rattle.gulvane_frames.specs.declared.Kept.{Kept}
 
--- the used part of the chunk, the filled part, and the kept part of the line
-pub record Cut (used filled kept : ℕ) : Type 0 where
-  pub within : used ≤ filled
-  pub chunk : filled ≤ 65536
-  pub line : kept ≤ 261
+-- the used part of the chunk, and the filled part
+pub record Filled (c : Chunk) : Type 0 where
+  pub within : c.used ≤ c.filled
+  pub chunk : c.filled ≤ 65536
 
-pub record Fine (r : Run) : Type 0 where
-  pub good : Good r.state
-  pub cut : Cut r.used r.filled r.kept
-  pub waits : r.at ≤ 49152
+-- the kept part of the line
+pub record Fits (l : Kept) : Type 0 where
+  pub line : l.len ≤ 261
+
+-- what waits leaves room for the lines of a map
+pub record Roomy (w : Writer) : Type 0 where
+  pub long : length w.buf.now ≡ 131072
+  pub waits : w.at ≤ 49152
