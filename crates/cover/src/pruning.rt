@@ -12,7 +12,7 @@ ghost use Rattle.rule.specs.Rule.{Needed, Prunes};
 ghost use Rattle.rule.specs.workings.Taking.{Took};
 ghost use Rattle.pieces.specs.workings.Steps.{PrunableOver, road_of};
 
-use pieces::Roads;
+use pieces::{Roads, spread};
 use road::NodeCount;
 use trails::{Trail, inward, longest};
 
@@ -85,7 +85,7 @@ fn drop_node(
     cover[v as usize] = 0;
     sizes[v as usize] = size;
     pieces[0] = v;
-    roads.spread(cover, pieces, sizes, size);
+    spread(&roads.ahead, &roads.back, cover, pieces, sizes, size);
 }
 
 // Takes one node.

@@ -6,6 +6,7 @@ mod sizes;
 ghost use Rattle.road.specs.workings.Left.{OfK};
 
 use road::{Graph, NodeCount};
+pub use sizes::spread;
 
 // The graph whose nodes are pruned, the same turned round, and k. That the one is the other turned
 // round stands in the contracts: a ghost field's fact has one proof alone, and this one has several,

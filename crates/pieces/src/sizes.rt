@@ -2,9 +2,10 @@
 // seen not to be needed. Nothing is searched here.
 ghost use Rattle.std.specs.Prelude.{◌≡◌, ◌+◌, ◌≤◌, ◌<◌, length};
 ghost use Rattle.road.specs.Counting.{under};
+ghost use Rattle.road.specs.Lent.{road_of};
 ghost use Rattle.pieces.specs.workings.Pieces.{Below, Fits, Kept, Raised, Raises, Row, Spread, Spreads};
 ghost use Rattle.trails.specs.workings.Search.{Searchable};
-ghost use Rattle.pieces.specs.workings.Steps.{PrunableOver, road_of};
+ghost use Rattle.pieces.specs.workings.Steps.{Prunable, PrunableOver};
 
 use crate::Roads;
 use road::{Graph, NodeCount};
@@ -115,9 +116,9 @@ impl<'a> Roads<'a> {
     // another, so the two largest sizes and one more bound it. From k on a size says nothing.
     pub fn size_for(&self, cover: &[u8], pieces: &[u32], sizes: &[u32], v: u32) -> NodeCount
         requires prunable { PrunableOver self.now cover.now }
-        requires kept { Kept (road_of self.now) self.now.k.0 cover.now sizes.now pieces.now }
+        requires kept { Kept (road_of self.now.ahead) self.now.k.0 cover.now sizes.now pieces.now }
         requires v_in_bounds { v < length cover.now }
-        ensures { Fits (road_of self.now) self.now.k.0 cover.now sizes.now v result.0 }
+        ensures { Fits (road_of self.now.ahead) self.now.k.0 cover.now sizes.now v result.0 }
     {
         let at = v as usize;
         let k = self.k;
@@ -136,22 +137,29 @@ impl<'a> Roads<'a> {
         }
         NodeCount(size)
     }
+}
 
-    // Spreads the size r from the node that waits, until no dropped node next to one of size r is
-    // of a smaller size.
-    pub fn spread(&self, cover: &[u8], pieces: &mut [u32], sizes: &mut [u32], r: u32)
-        requires prunable { PrunableOver self.now cover.now }
-        requires spreads { Spreads (road_of self.now) cover.now r sizes.old pieces.old 0 1 }
-        ensures { Spread (road_of self.now) cover.now r sizes.old sizes.new }
-    {
-        let mut i = 0;
-        let mut count = 1;
-        // A while: the list of those that wait grows as it is gone through, so no range counts it.
-        while i < count {
-            let x = pieces[i] as usize;
-            count = raise_row(&self.ahead, cover, pieces, sizes, count, r, x);
-            count = raise_row(&self.back, cover, pieces, sizes, count, r, x);
-            i += 1;
-        }
+// Spreads the size r from the node that waits, until no dropped node next to one of size r is of a
+// smaller size. It takes the two graphs and not Roads, since it asks nothing of k.
+pub fn spread(
+    graph: &Graph,
+    back: &Graph,
+    cover: &[u8],
+    pieces: &mut [u32],
+    sizes: &mut [u32],
+    r: u32,
+)
+    requires prunable { Prunable graph.now.starts.now graph.now.heads.now graph.now.weights.now back.now.starts.now back.now.heads.now back.now.weights.now cover.now }
+    requires spreads { Spreads (road_of graph.now) cover.now r sizes.old pieces.old 0 1 }
+    ensures { Spread (road_of graph.now) cover.now r sizes.old sizes.new }
+{
+    let mut i = 0;
+    let mut count = 1;
+    // A while: the list of those that wait grows as it is gone through, so no range counts it.
+    while i < count {
+        let x = pieces[i] as usize;
+        count = raise_row(graph, cover, pieces, sizes, count, r, x);
+        count = raise_row(back, cover, pieces, sizes, count, r, x);
+        i += 1;
     }
 }

@@ -1,6 +1,6 @@
 use Rattle.pieces.proofs.Spreading.{spreading_more, spreading_end, room_after}
 use Rattle.pieces.proofs.Ready.{search_back}
-use Rattle.pieces.proofs.Roads.spread.Goals as goal
+use Rattle.pieces.proofs.sizes.spread.Goals as goal
 
 pub raise_row-count-requires-in-loop-i-clause-searchable : goal.raise_row-count-requires-in-loop-i-clause-searchable
 raise_row-count-requires-in-loop-i-clause-searchable c = search_back _ _ _ _ _ _ _ c.requires.prunable
