@@ -1,6 +1,7 @@
 // A graph as it is lent: to be read, or to be written.
-ghost use Rattle.std.specs.Prelude.{◌≡◌, ◌+◌, ◌<◌, length};
+ghost use Rattle.std.specs.Prelude.{◌≡◌, ◌+◌, ◌<◌, length, replicate};
 ghost use Rattle.road.specs.Drives.{Joined};
+ghost use Rattle.road.specs.Lent.{SameSlices};
 ghost use Rattle.road.specs.Roads.{nodes_of};
 ghost use Rattle.road.specs.workings.Scans.{RowOf};
 ghost use Rattle.road.specs.workings.Sound.{Sorted};
@@ -9,7 +10,7 @@ ghost use Rattle.road.specs.workings.Verdicts.{Tells};
 use crate::{Graph, GraphMut, NodeCount};
 use std::ops::Range;
 
-impl<'a> Graph<'a> {
+impl Graph<'_> {
     // The number of its nodes.
     pub fn node_count(&self) -> NodeCount
         ensures { result.0 ≡ nodes_of self.now.starts.now }
@@ -17,7 +18,8 @@ impl<'a> Graph<'a> {
         NodeCount(self.starts.len().saturating_sub(1))
     }
 
-    // The places at which the arcs with this tail stand.
+    // The places at which the arcs with this tail stand. They are gone through as `start..end`: over the
+    // range itself the proof goes by the iterator's general laws and is far longer.
     pub fn row(&self, tail: usize) -> Range<usize>
         requires { tail + 1 < length self.now.starts.now }
         ensures { RowOf self.now.starts.now tail result }
@@ -53,7 +55,7 @@ impl<'a> Graph<'a> {
     }
 }
 
-impl<'a> GraphMut<'a> {
+impl GraphMut<'_> {
     // What it holds now, to be read.
     pub fn lent(&self) -> Graph<'_>
         ensures starts { result.starts.now ≡ self.now.starts.now }
@@ -65,5 +67,17 @@ impl<'a> GraphMut<'a> {
             heads: &*self.heads,
             weights: &*self.weights,
         }
+    }
+
+    // Fills it with zeros.
+    pub fn clear(&mut self)
+        ensures starts { self.new.starts.now ≡ replicate (length self.old.starts.now) 0 }
+        ensures heads { self.new.heads.now ≡ replicate (length self.old.heads.now) 0 }
+        ensures weights { self.new.weights.now ≡ replicate (length self.old.weights.now) 0 }
+        ensures same_slices { SameSlices self.old self.new }
+    {
+        self.starts.fill(0);
+        self.heads.fill(0);
+        self.weights.fill(0);
     }
 }
