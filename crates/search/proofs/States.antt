@@ -97,6 +97,7 @@ module _ (starts heads weights blocked : List ℕ) (source : ℕ) (labels : List
         record {
           sound_graph = g.sound_graph;
           node = g.node;
+          bytes = g.bytes;
           long = length-set labels v (label_at labels u + w) ∙ g.long;
           start = start_by (ℕ_discrete source v);
           sound = λ x d e. sound_by x d e (ℕ_discrete x v);
@@ -340,7 +341,7 @@ module _ (starts heads weights blocked : List ℕ) (source : ℕ) (labels places
 abbrev pub blank : ℕ → List ℕ
 blank n = replicate n 0
 
-module _ (starts heads weights blocked : List ℕ) (source : ℕ) (sound : Sound overlay_limits starts heads weights) (node : source < nodes_of starts) where
+module _ (starts heads weights blocked : List ℕ) (source : ℕ) (sound : Sound overlay_limits starts heads weights) (node : source < nodes_of starts) (bytes : length blocked ≡ nodes_of starts) where
   first_label : get_or (set (blank (nodes_of starts)) source 1) source 0 ≡ 1
   first_label = get_or-set_same (blank (nodes_of starts)) source 1 0 (omega (arith, length-replicate {A = ℕ} (nodes_of starts) 0))
 
@@ -359,6 +360,7 @@ module _ (starts heads weights blocked : List ℕ) (source : ℕ) (sound : Sound
       record {
         sound_graph = sound;
         node = node;
+        bytes = bytes;
         long = length-set (blank (nodes_of starts)) source 1 ∙ length-replicate {A = ℕ} (nodes_of starts) 0;
         start = first_label;
         sound = λ v d e. walk v d e (only_source v (λ z. omega arith));
@@ -592,4 +594,4 @@ module _ (starts heads weights blocked : List ℕ) (source : ℕ) (labels heap p
       Going starts heads weights blocked source (set cleared source 1) heap' places' count All
   going_first cleared heap' places' count e h w =
       subst (λ (l : List ℕ). Going starts heads weights blocked source (set l source 1) heap' places' count All) (sym (e ∙ ap blank q.room))
-      (first_going starts heads weights blocked source q.sound q.node heap' places' count h (subst (λ (l : List ℕ). With source l places') q.places_zero w))
+      (first_going starts heads weights blocked source q.sound q.node q.bytes heap' places' count h (subst (λ (l : List ℕ). With source l places') q.places_zero w))

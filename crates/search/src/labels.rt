@@ -15,7 +15,7 @@ use road::Graph;
 fn offer(labels: &mut [u64], queue: &mut Queue, v: usize, x: u64)
     requires heap { HeapBy labels.old queue.old }
     requires v_in_bounds { v < length queue.old.places.now }
-    ensures heap_2 { HeapOf queue.new }
+    ensures still_heap { HeapOf queue.new }
     ensures offered { Offered v x labels.old queue.old.places.now queue.old.waiting labels.new queue.new.places.now queue.new.waiting }
     ensures slices { SameSlices queue.old queue.new }
 {
@@ -42,8 +42,8 @@ fn relax(
     requires going { GoingOf graph.now blocked.now source labels.old queue.old (Upto u (get_or graph.now.starts.now u 0)) }
     requires leaves { Leaves blocked.now source labels.old queue.old.places.now u }
     requires u_bound { u < nodes_of graph.now.starts.now }
-    ensures going_2 { GoingOf graph.now blocked.now source labels.new queue.new All }
-    ensures result_bound { mass labels.new + queue.new.waiting ≤ mass labels.old + queue.old.waiting }
+    ensures still_going { GoingOf graph.now blocked.now source labels.new queue.new All }
+    ensures mass_grows_not { mass labels.new + queue.new.waiting ≤ mass labels.old + queue.old.waiting }
     ensures slices { SameSlices queue.old queue.new }
 {
     let heads = graph.heads;
@@ -59,10 +59,9 @@ fn relax(
 // Takes a node that waits, and where it may be left offers its neighbours labels.
 pub fn take_one(graph: &Graph, blocked: &[u8], source: usize, labels: &mut [u64], queue: &mut Queue)
     requires going { GoingOf graph.now blocked.now source labels.old queue.old All }
-    requires blocked_len { length blocked.now ≡ nodes_of graph.now.starts.now }
-    requires le_waiting { 1 ≤ queue.old.waiting }
-    ensures going_2 { GoingOf graph.now blocked.now source labels.new queue.new All }
-    ensures result_bound { mass labels.new + queue.new.waiting < mass labels.old + queue.old.waiting }
+    requires one_waits { 1 ≤ queue.old.waiting }
+    ensures still_going { GoingOf graph.now blocked.now source labels.new queue.new All }
+    ensures mass_falls { mass labels.new + queue.new.waiting < mass labels.old + queue.old.waiting }
     ensures slices { SameSlices queue.old queue.new }
 {
     let u = queue.take(labels);
@@ -74,8 +73,7 @@ pub fn take_one(graph: &Graph, blocked: &[u8], source: usize, labels: &mut [u64]
 // Takes nodes until none waits.
 fn run(graph: &Graph, blocked: &[u8], source: usize, labels: &mut [u64], queue: &mut Queue)
     requires going { GoingOf graph.now blocked.now source labels.old queue.old All }
-    requires blocked_len { length blocked.now ≡ nodes_of graph.now.starts.now }
-    ensures going_2 { GoingOf graph.now blocked.now source labels.new queue.new All }
+    ensures still_going { GoingOf graph.now blocked.now source labels.new queue.new All }
     ensures none { queue.new.waiting ≡ 0 }
     ensures slices { SameSlices queue.old queue.new }
 {
@@ -100,11 +98,12 @@ pub fn begin(graph: &Graph, blocked: &[u8], source: usize, labels: &mut [u64], q
 
 // For every node the least weight over paths from the source with no blocked node strictly inside,
 // as a label: 0 where there is none, else the weight + 1. The queue's two slices are zeros before
-// and after.
+// and after. Labels as numbers, `blocked` as bytes: C lends the room for them as it is.
 pub fn search(graph: &Graph, blocked: &[u8], source: usize, labels: &mut [u64], queue: &mut Queue)
     requires { Asks graph.now.starts.now graph.now.heads.now graph.now.weights.now blocked.now source labels.old queue.old.heap.now queue.old.places.now }
     ensures row { Row (road_of graph.now) blocked.now source labels.new }
-    ensures heap_value { (queue.new.heap.now ≡ queue.old.heap.now) × (queue.new.places.now ≡ queue.old.places.now) }
+    ensures waiting { queue.new.waiting ≡ queue.old.waiting }
+    ensures unchanged { (queue.new.heap.now ≡ queue.old.heap.now) × (queue.new.places.now ≡ queue.old.places.now) }
     ensures slices { SameSlices queue.old queue.new }
 {
     // A queue of its own over the same slices: it stays in registers, the caller's would not.

@@ -17,10 +17,11 @@ pub record Reached (labels : List ℕ) (v x : ℕ) : Type 0 where
   pub some : label_at labels v ≢ 0
   pub most : label_at labels v ≤ x
 
--- each label is that of a walk, and none is too large: each node that has one adds at most the greatest weight
+-- a byte and a label for each node; each label is that of a walk, and none is too large: each node that has one adds at most the greatest weight
 pub record State (starts heads weights blocked : List ℕ) (source : ℕ) (labels : List ℕ) : Type 0 where
   pub sound_graph : Sound overlay_limits starts heads weights
   pub node : source < nodes_of starts
+  pub bytes : length blocked ≡ nodes_of starts
   pub long : length labels ≡ nodes_of starts
   pub start : label_at labels source ≡ 1
   pub sound : (v d : ℕ) → label_at labels v ≡ suc d → Walks (road starts heads weights) (Free blocked) source v d

@@ -12,4 +12,4 @@ add-requires-clause-heap c =
     }
 
 pub returns-clause-going : goal.returns-clause-going
-returns-clause-going c = going_first _ _ _ _ _ _ _ _ c.requires c.fill.new.self _ _ _ (search rules) c.add.ensures.heap_2 c.add.ensures.with
+returns-clause-going c = going_first _ _ _ _ _ _ _ _ c.requires c.fill.new.self _ _ _ (search rules) c.add.ensures.still_heap c.add.ensures.with

@@ -16,7 +16,7 @@ bounds-heads-p c = row_listed _ _ _ _ _ _ _ _ _ _ _ _ _ c.loop-p.invariant c.loo
 
 pub loop-p-preserved : goal.loop-p-preserved
 loop-p-preserved c =
-    relax_more _ _ _ _ _ _ _ _ _ _ _ _ _ c.loop-p.invariant c.loop-p-test.true _ _ _ c.from.ensures c.offer.ensures.heap_2 c.offer.ensures.offered c.offer.auto.labels c.offer.ensures.slices
+    relax_more _ _ _ _ _ _ _ _ _ _ _ _ _ c.loop-p.invariant c.loop-p-test.true _ _ _ c.from.ensures c.offer.ensures.still_heap c.offer.ensures.offered c.offer.auto.labels c.offer.ensures.slices
 
-pub returns-clause-going_2 : goal.returns-clause-going_2
-returns-clause-going_2 c = relax_end _ _ _ _ _ _ _ _ _ _ _ _ _ c.loop-p.invariant c.loop-p-test.false
+pub returns-clause-still_going : goal.returns-clause-still_going
+returns-clause-still_going c = relax_end _ _ _ _ _ _ _ _ _ _ _ _ _ c.loop-p.invariant c.loop-p-test.false

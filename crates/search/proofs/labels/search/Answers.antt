@@ -4,11 +4,11 @@ use Rattle.search.proofs.States.{going_at, places_long, row_of, heap_empty, plac
 use Rattle.search.proofs.labels.search.Goals as goal
 
 pub returns-clause-row : goal.returns-clause-row
-returns-clause-row c = row_of _ _ _ _ _ _ _ _ (going_at _ _ _ _ _ _ _ _ _ _ c.run.ensures.none c.run.ensures.going_2)
+returns-clause-row c = row_of _ _ _ _ _ _ _ _ (going_at _ _ _ _ _ _ _ _ _ _ c.run.ensures.none c.run.ensures.still_going)
 
-pub returns-clause-heap_value : goal.returns-clause-heap_value
-returns-clause-heap_value c =
-    let done = going_at _ _ _ _ _ _ _ _ _ _ c.run.ensures.none c.run.ensures.going_2 in
+pub returns-clause-unchanged : goal.returns-clause-unchanged
+returns-clause-unchanged c =
+    let done = going_at _ _ _ _ _ _ _ _ _ _ c.run.ensures.none c.run.ensures.still_going in
     let first = c.begin.ensures.slices in
     let then = c.run.ensures.slices in
     let heap = sym (then.heap ∙ first.heap) in
