@@ -1,10 +1,10 @@
 // The moment of building.
-ghost use Rattle.std.specs.Prelude.{◌≡◌, ◌∷◌, ◌++◌, ◌+◌, ◌*◌, ◌≤◌, length, IfOk};
+ghost use Rattle.std.specs.Prelude.{◌∷◌, ◌++◌, ◌+◌, ◌*◌, ◌≤◌, length, IfOk};
 ghost use Rattle.hexlines.specs.Outputs.{counts, text_of};
 ghost use Rattle.hexlines.specs.Writers.{Writes};
 ghost use Rattle.maps.specs.Lists.{arc_lines, point_lines};
-ghost use Rattle.road.specs.Lent.{SameSlices};
 ghost use Rattle.maps.specs.workings.Printing.{RowsFit};
+ghost use Rattle.road.specs.Lent.{SameSlices};
 ghost use Rattle.frames.specs.workings.Held.{BuildFits, Built, Laid, LayFits};
 
 use hexlines::Writer;
@@ -46,7 +46,8 @@ fn lay(
     Ok(arcs)
 }
 
-// The same, the room for the overlay being three slices.
+// The same, the room being three slices. A function of its own: what a part of an array holds at the
+// end is not known where the part goes straight into the struct.
 fn lay_in(
     points: NodeCount,
     graph: &Graph,

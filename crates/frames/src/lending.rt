@@ -1,5 +1,5 @@
 // The graph and the overlay that stand in the areas.
-ghost use Rattle.std.specs.Prelude.{◌≡◌, ◌+◌, ◌≤◌, take};
+ghost use Rattle.std.specs.Prelude.{◌≡◌, ◌+◌, take};
 ghost use Rattle.frames.specs.Held.{MapFits};
 
 use crate::{Areas, Sizes};

@@ -2,8 +2,8 @@
 // line is and does is decided there. A read or a write that fails ends it with the error.
 #![tactic(auto)]
 
-ghost use Rattle.std.specs.Prelude.{◌≡◌, true, ◌+◌, ◌≤◌, length, IfOk};
-ghost use Rattle.frames.specs.Held.{Good, map_room};
+ghost use Rattle.std.specs.Prelude.{◌≡◌, true, ◌≤◌, length, IfOk};
+ghost use Rattle.frames.specs.Held.{Good};
 ghost use Rattle.frames.specs.Stages.{goes};
 ghost use Rattle.gulvane_frames.specs.workings.Runs.{Filled, Fits, Roomy};
 

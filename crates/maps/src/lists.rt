@@ -1,6 +1,5 @@
 // Ascending numbers, and the starts of the arcs read.
 ghost use Rattle.std.specs.Prelude.{◌≡◌, ◌≤◌, count_by, length, ltb};
-ghost use Rattle.road.specs.Counting.{under};
 ghost use Rattle.maps.specs.Lists.{belows, numbers};
 
 // Fills the slice with 0, 1, 2 and so on.
