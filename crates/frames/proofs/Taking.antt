@@ -3,7 +3,7 @@ use mathlib.Core.Path.{◌≡◌, refl, sym, ap, subst, ◌∙◌}
 use mathlib.Core.Bool.{true, true≢false}
 use mathlib.Core.List.{List, ◌++◌}
 use Prim.Native.Nat.{ℕ}
-use Rattle.std.specs.Prelude.{Option, Some, None, Result}
+use Rattle.std.specs.Prelude.{Option, Some, None, Result, Ok, Err, ok_or}
 use lib.ListN.{length, take, drop}
 use lib.Seq.{take_at}
 use Rattle.road.specs.declared.Refusal.{Refusal}
@@ -73,6 +73,11 @@ module _ (bytes : List ℕ) (nodes nodes' : List ℕ) where
   judged_step long s told h r ℓ x o =
       judged_steps ℓ s told x o (subst (λ (room : ℕ). Tells (ReadAs room bytes) told nodes nodes') long h.tells) r
 
+-- the refusal of a line that is read as no frame
+abbrev error_of : Result Line Refusal → Refusal
+error_of (Ok line) = R.Line
+error_of (Err r) = r
+
 -- the line is taken in the phase p, of which s is the stage
 module _
     (bytes nodes nodes' : List ℕ) (told : Option Line) (p : Phase) (A : Areas) (go : goes p ≡ true) (reads : Reads bytes told nodes nodes')
@@ -83,10 +88,11 @@ module _
         judged_step bytes nodes nodes' long (stage_by p A) told reads (runs_by p A go) ℓ x o
         (coe 0 1 (i. Judged (sym e i) (sym q i) nodes' ℓ x o) j)
 
-    pub takes_none : told ≡ None → (w : Writer) → Refuses (Takes (stage_by p A) bytes) R.Line w w
-    takes_none q w =
-        refuses_as (Judged (stage_by p A) None nodes') (Takes (stage_by p A) bytes) R.Line w w (takes (stage_by p A) refl None q)
-        (none_due (stage_by p A) None nodes' w (λ f e d. e))
+    pub takes_none : told ≡ None → (r : Refusal) → Err r ≡ ok_or told R.Line → (w : Writer) → Refuses (Takes (stage_by p A) bytes) r w w
+    takes_none q r e w =
+        subst (λ (x : Refusal). Refuses (Takes (stage_by p A) bytes) x w w) (sym (ap error_of (e ∙ ap (λ (t : Option Line). ok_or t R.Line) q)))
+        (refuses_as (Judged (stage_by p A) None nodes') (Takes (stage_by p A) bytes) R.Line w w (takes (stage_by p A) refl None q)
+        (none_due (stage_by p A) None nodes' w (λ f e d. e)))
 
     pub takes_leaves :
         {B : Type 0} (f : B → Stage) (s : Stage) → stage_by p A ≡ s → (read : Option Line) → told ≡ read → (res : Result B Refusal) (w w' : Writer) →

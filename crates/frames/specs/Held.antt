@@ -1,5 +1,5 @@
 -- What the code is asked for, and what it leaves.
-use Rattle.std.specs.Prelude.{◌≡◌, List, ℕ, ◌+◌, ◌≤◌, ◌<◌}
+use Rattle.std.specs.Prelude.{◌≡◌, List, ℕ, ◌+◌, ◌≤◌, ◌<◌, length}
 use Rattle.hexlines.specs.Outputs.{Out, text_of}
 use Rattle.hexlines.specs.Writers.{Writes}
 use Rattle.hexlines.specs.declared.Writer.{Writer}
@@ -19,6 +19,10 @@ pub record Printed (P : Stage → List Out → Type 0) (after : Stage) (w w' : W
 -- the most characters that the moment of building prints: its counts, 512 nodes and 4,096 arcs
 abbrev pub map_room : ℕ
 map_room = 81419
+
+-- room for them
+abbrev pub MapRoom : Writer → Type 0
+MapRoom w = w.at + map_room ≤ length w.buf.now
 
 -- a graph that is being read is within the areas, and arcs are missing
 pub record LoadFits (load : Load) : Type 0 where

@@ -1,7 +1,7 @@
 // The lines after the arcs: questions and drives, and what is printed for them.
 ghost use Rattle.std.specs.Prelude.{◌≡◌, ◌+◌, ◌≤◌, length};
 ghost use Rattle.maps.specs.workings.Calls.{GraphFits};
-ghost use Rattle.frames.specs.Held.{MapFits, map_room};
+ghost use Rattle.frames.specs.Held.{MapFits, MapRoom};
 ghost use Rattle.frames.specs.Stages.{map_in};
 ghost use Rattle.frames.specs.Steps.{asking};
 ghost use Rattle.frames.specs.workings.Held.{Answered, Leaves, Limited, Thinned};
@@ -58,7 +58,7 @@ pub fn ask(
     requires fits { MapFits map }
     requires limited { Limited line }
     requires nodes_len { length nodes.now ≡ 64 }
-    requires room { out.old.at + map_room ≤ length out.old.buf.now }
+    requires room { MapRoom out.old }
     ensures { Leaves (Judged (asking (map_in map areas.now)) (Some line) nodes.now) (λ u. asking (map_in map areas.now)) result out.old out.new }
 {
     let graph = areas.graph(map);

@@ -7,7 +7,7 @@ use road::Graph;
 
 impl Areas {
     // The graph.
-    pub fn graph(&self, map: Sizes) -> Graph<'_>
+    pub(crate) fn graph(&self, map: Sizes) -> Graph<'_>
         requires { MapFits map }
         ensures starts { result.starts.now ≡ take (map.n.0 + 1) self.now.starts }
         ensures heads { result.heads.now ≡ take map.m.0 self.now.heads }
@@ -23,7 +23,7 @@ impl Areas {
     }
 
     // The overlay.
-    pub fn overlay(&self, map: Sizes) -> Graph<'_>
+    pub(crate) fn overlay(&self, map: Sizes) -> Graph<'_>
         requires { MapFits map }
         ensures starts { result.starts.now ≡ take (map.n.0 + 1) self.now.over_starts }
         ensures heads { result.heads.now ≡ take map.over.0 self.now.over_heads }

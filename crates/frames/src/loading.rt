@@ -1,6 +1,6 @@
 // The head and the arcs as they are read, and the graph once it is complete.
-ghost use Rattle.std.specs.Prelude.{◌≡◌, List, ℕ, ◌+◌, ◌≤◌, length, IfOk, ⊤};
-ghost use Rattle.frames.specs.Held.{LoadFits, map_room};
+ghost use Rattle.std.specs.Prelude.{◌≡◌, List, ℕ, ◌+◌, ◌≤◌, IfOk, ⊤};
+ghost use Rattle.frames.specs.Held.{LoadFits, MapRoom};
 ghost use Rattle.frames.specs.workings.Held.{Kept, Leaves, Limited, builds_in, loads_in};
 ghost use Rattle.frames.specs.workings.Judging.{Falls, Judged};
 ghost use Rattle.frames.specs.Stages.{loading_in, stage_by};
@@ -16,7 +16,7 @@ use road::{ArcCount, Graph, NodeCount, Refusal};
 // The graph is complete: the map is built.
 fn complete(load: Load, areas: &mut Areas, out: &mut Writer) -> Result<Phase, Refusal>
     requires limits { (load.n.0 ≤ 512) × (load.m.0 ≤ 2048) }
-    requires room { out.old.at + map_room ≤ length out.old.buf.now }
+    requires room { MapRoom out.old }
     ensures leaves { Leaves (builds_in load areas.old) (λ p. stage_by p areas.new) result out.old out.new }
     ensures kept { IfOk result (Kept (λ ℓ. ⊤)) }
 {
@@ -42,7 +42,7 @@ fn complete(load: Load, areas: &mut Areas, out: &mut Writer) -> Result<Phase, Re
 // Arcs are read: more are to come, or the graph is complete.
 fn go_on(load: Load, areas: &mut Areas, out: &mut Writer) -> Result<Phase, Refusal>
     requires limits { (load.n.0 ≤ 512) × (load.m.0 ≤ 2048) × (load.count.0 ≤ load.m.0) }
-    requires room { out.old.at + map_room ≤ length out.old.buf.now }
+    requires room { MapRoom out.old }
     ensures leaves { Leaves (loads_in load areas.old) (λ p. stage_by p areas.new) result out.old out.new }
     ensures kept { IfOk result (Kept (λ ℓ. ℓ ≡ load.count.0 + 1)) }
 {
@@ -55,7 +55,7 @@ fn go_on(load: Load, areas: &mut Areas, out: &mut Writer) -> Result<Phase, Refus
 // A line before the head: it must be the head.
 pub fn take_head(line: Line, areas: &mut Areas, out: &mut Writer) -> Result<Phase, Refusal>
     requires limited { Limited line }
-    requires room { out.old.at + map_room ≤ length out.old.buf.now }
+    requires room { MapRoom out.old }
     ensures leaves { (nodes : List ℕ) → Leaves (Judged begun (Some line) nodes) (λ p. stage_by p areas.new) result out.old out.new }
     ensures kept { IfOk result (Kept (λ ℓ. ℓ ≡ 1)) }
 {
@@ -81,7 +81,7 @@ pub fn take_arc(
     out: &mut Writer,
 ) -> Result<Phase, Refusal>
     requires fits { LoadFits load }
-    requires room { out.old.at + map_room ≤ length out.old.buf.now }
+    requires room { MapRoom out.old }
     ensures leaves { (nodes : List ℕ) → Leaves (Judged (loading_in load areas.old) (Some line) nodes) (λ p. stage_by p areas.new) result out.old out.new }
     ensures kept { IfOk result (Kept (λ ℓ. ℓ ≡ load.count.0 + 2)) }
 {

@@ -1,6 +1,6 @@
 // What each line does to the program's state.
 ghost use Rattle.std.specs.Prelude.{◌≡◌, true, ◌+◌, ◌≤◌, length, IfOk};
-ghost use Rattle.frames.specs.Held.{Good, Within, map_room};
+ghost use Rattle.frames.specs.Held.{Good, MapRoom, Within};
 ghost use Rattle.frames.specs.Stages.{Starts, TookEnd, TookLine, TookUnended, goes, stage_by};
 ghost use Rattle.frames.specs.workings.Held.{Kept, Leaves, Next};
 ghost use Rattle.frames.specs.workings.Judging.{Halted, Takes};
@@ -39,14 +39,12 @@ fn stop(r: Refusal, line: usize, out: &mut Writer) -> State
 fn step(phase: Phase, bytes: &[u8], areas: &mut Areas, out: &mut Writer) -> Result<Phase, Refusal>
     requires going { goes phase ≡ true }
     requires within { Within phase }
-    requires room { out.old.at + map_room ≤ length out.old.buf.now }
+    requires room { MapRoom out.old }
     ensures leaves { Leaves (Takes (stage_by phase areas.old) bytes.now) (λ p. stage_by p areas.new) result out.old out.new }
     ensures kept { IfOk result (Kept (Next phase)) }
 {
     let mut nodes = [0u32; 64];
-    let Some(line) = read_line(bytes, &mut nodes) else {
-        return Err(Refusal::Line);
-    };
+    let line = read_line(bytes, &mut nodes).ok_or(Refusal::Line)?;
     match phase {
         Phase::Begun => take_head(line, areas, out),
         Phase::Loading(load) => take_arc(load, line, areas, out),
@@ -54,6 +52,7 @@ fn step(phase: Phase, bytes: &[u8], areas: &mut Areas, out: &mut Writer) -> Resu
             ask(map, line, &nodes, areas, out)?;
             Ok(phase)
         }
+        // never met: the phase goes on
         Phase::Stopped => Err(Refusal::Line),
     }
 }
@@ -62,7 +61,7 @@ fn step(phase: Phase, bytes: &[u8], areas: &mut Areas, out: &mut Writer) -> Resu
 pub fn take_line(s: State, bytes: &[u8], areas: &mut Areas, out: &mut Writer) -> State
     requires going { goes s.phase ≡ true }
     requires good { Good s }
-    requires room { out.old.at + map_room ≤ length out.old.buf.now }
+    requires room { MapRoom out.old }
     ensures { TookLine s areas.old bytes.now result areas.new out.old out.new }
 {
     if s.lines == 65535 {

@@ -18,7 +18,7 @@ use Rattle.frames.specs.declared.Load.{Load}
 use Rattle.frames.specs.declared.Phase.{Phase}
 use Rattle.frames.specs.declared.Phase.TheVariants.{Begun, Loading, Asking, Stopped}
 use Rattle.frames.specs.Steps.{Map, Stage, asking, stopped, Builds, Loads, Answers, Thins, refused_by}
-use Rattle.frames.specs.Held.{Counted, Within, map_room}
+use Rattle.frames.specs.Held.{Counted, MapRoom, Within}
 
 -- what a step does at any line's number: a stage and lines of which P holds, the lines being printed
 pub record Prints (P : ℕ → Stage → List Out → Type 0) (after : Stage) (w w' : Writer) : Type 0 where
@@ -51,7 +51,7 @@ pub record BuildFits (starts heads : List ℕ) (w : Writer) : Type 0 where
   pub some : 1 ≤ length starts
   pub nodes : length starts ≤ 513
   pub arcs : length heads ≤ 2048
-  pub space : w.at + map_room ≤ length w.buf.now
+  pub space : MapRoom w
 
 -- the same once the cover is there
 pub record LayFits (starts heads chosen starts' heads' weights' : List ℕ) (w : Writer) : Type 0 where
@@ -62,7 +62,7 @@ pub record LayFits (starts heads chosen starts' heads' weights' : List ℕ) (w :
   pub over_long : length starts' ≡ nodes_of starts + 1
   pub room : length heads' ≡ 4096
   pub rooms : length weights' ≡ 4096
-  pub space : w.at + map_room ≤ length w.buf.now
+  pub space : MapRoom w
 
 -- the map whose overlay's arcs stand at the front of their slices
 abbrev pub map_over : Map → ArcCount → Map
