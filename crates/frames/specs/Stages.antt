@@ -49,6 +49,11 @@ goes (Loading load) = true
 goes (Asking map) = true
 goes Stopped = false
 
+-- a state that takes more lines, within its limits
+pub record Goes (s : State) : Type 0 where
+  pub going : goes s.phase ≡ true
+  pub good : Good s
+
 -- what a call leaves that took line ℓ: a stage and lines of which P holds, a state within its limits, and, while it goes on, the line
 -- counted
 pub record Left

@@ -1,7 +1,7 @@
 // What each line does to the program's state.
 ghost use Rattle.std.specs.Prelude.{◌≡◌, true, ◌+◌, ◌≤◌, length, IfOk};
-ghost use Rattle.frames.specs.Held.{Good, MapRoom, Within};
-ghost use Rattle.frames.specs.Stages.{Starts, TookEnd, TookLine, TookUnended, goes, stage_by};
+ghost use Rattle.frames.specs.Held.{MapRoom, Within};
+ghost use Rattle.frames.specs.Stages.{Goes, Starts, TookEnd, TookLine, TookUnended, goes, stage_by};
 ghost use Rattle.frames.specs.workings.Held.{Kept, Leaves, Next};
 ghost use Rattle.frames.specs.workings.Judging.{Halted, Takes};
 
@@ -59,8 +59,7 @@ fn step(phase: Phase, bytes: &[u8], areas: &mut Areas, out: &mut Writer) -> Resu
 
 // Takes the next line, without its line feed.
 pub fn take_line(s: State, bytes: &[u8], areas: &mut Areas, out: &mut Writer) -> State
-    requires going { goes s.phase ≡ true }
-    requires good { Good s }
+    requires goes { Goes s }
     requires room { MapRoom out.old }
     ensures { TookLine s areas.old bytes.now result areas.new out.old out.new }
 {
@@ -76,8 +75,7 @@ pub fn take_line(s: State, bytes: &[u8], areas: &mut Areas, out: &mut Writer) ->
 
 // Takes bytes, at least one, that no line feed ends: what they are plays no part.
 pub fn take_unended(s: State, out: &mut Writer) -> State
-    requires going { goes s.phase ≡ true }
-    requires good { Good s }
+    requires goes { Goes s }
     requires room { out.old.at + 9 ≤ length out.old.buf.now }
     ensures { TookUnended s result out.old out.new }
 {
@@ -86,8 +84,7 @@ pub fn take_unended(s: State, out: &mut Writer) -> State
 
 // Takes the end of the input. While lines are missing it comes early: none of them is beyond 65,535.
 pub fn take_end(s: State, out: &mut Writer) -> State
-    requires going { goes s.phase ≡ true }
-    requires good { Good s }
+    requires goes { Goes s }
     requires room { out.old.at + 9 ≤ length out.old.buf.now }
     ensures { TookEnd s result out.old out.new }
 {
