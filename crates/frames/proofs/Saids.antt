@@ -9,7 +9,7 @@ use lib.Seq.{take-append_seam, length-take-le}
 use Rattle.road.specs.declared.Refusal.{Refusal}
 use Rattle.road.specs.Chains.{drive_faults}
 use Rattle.road.specs.Faults.{length_fault}
-use Rattle.road.specs.Refusals.{Fault, First, None, Said, refusal, answer}
+use Rattle.road.specs.Refusals.{Fault, None, Said, refusal, answer}
 use Rattle.distance.specs.Calls.{said_of as distance_said}
 use Rattle.distance.specs.Calls as D
 use Rattle.drive.specs.Calls as T
@@ -72,41 +72,37 @@ module _ (M : Map) (a b : ℕ) where
 pub room_long : (n : ℕ) → n ≤ 64 → length (take n (replicate {A = ℕ} 64 0)) ≡ n
 room_long n h = length-take-le n (replicate {A = ℕ} 64 0) h
 
-module _ (starts heads weights chosen nodes positions : List ℕ) (alike : length positions ≡ length nodes) where
+module _ (M : Map) (nodes positions : List ℕ) (alike : length positions ≡ length nodes) where
   abbrev Faults : List Fault
-  Faults = drive_faults starts heads weights chosen nodes
+  Faults = drive_faults M.starts M.heads M.weights M.chosen nodes
 
   long_fault : (s : Refusal) → length_fault (length positions) (length nodes) s → ⊥
   long_fault s f = f.holds alike
 
   thin_refused :
-      (ℓ : ℕ) (said : Said) (after : List ℕ) (r : Refusal) → said ≡ refusal r → T.Outcome starts heads weights chosen nodes positions said after →
-      (M : Map) → M.starts ≡ starts → M.heads ≡ heads → M.weights ≡ weights → M.chosen ≡ chosen → Thins ℓ M nodes stopped (refused_by r ℓ)
-  thin_refused ℓ said after r e (T.refused {r = r'} f) M e₁ e₂ e₃ e₄ =
+      (ℓ : ℕ) (said : Said) (after : List ℕ) (r : Refusal) → said ≡ refusal r → T.Outcome M.starts M.heads M.weights M.chosen nodes positions said after →
+      Thins ℓ M nodes stopped (refused_by r ℓ)
+  thin_refused ℓ said after r e (T.refused {r = r'} f) =
       subst (λ (n : ℕ). Thins ℓ M nodes stopped (refused n ℓ ∷ [])) (ap (λ (s : Said). s.number) e)
-      (no_drive
-      (subst (λ (Fs : List Fault). First Fs r') (λ i. drive_faults (sym e₁ i) (sym e₂ i) (sym e₃ i) (sym e₄ i) nodes)
-      (first_of Faults (length_fault (length positions) (length nodes)) r' long_fault f)))
-  thin_refused ℓ said after r e (T.thinned n t) M e₁ e₂ e₃ e₄ = let z = ap size e in absurd (omega arith)
+      (no_drive (first_of Faults (length_fault (length positions) (length nodes)) r' long_fault f))
+  thin_refused ℓ said after r e (T.thinned n t) = let z = ap size e in absurd (omega arith)
 
   pub drive_refused :
-      (after : List ℕ) (r : Refusal) (w : Writer) → T.Outcome starts heads weights chosen nodes positions (refusal r) after →
-      Thinned starts heads weights chosen nodes (Err r) w w
+      (after : List ℕ) (r : Refusal) (w : Writer) → T.Outcome M.starts M.heads M.weights M.chosen nodes positions (refusal r) after →
+      Thinned M nodes (Err r) w w
   drive_refused after r w o =
-      record {
-        each = λ M e₁ e₂ e₃ e₄. record { does = λ ℓ. thin_refused ℓ (refusal r) after r refl o M e₁ e₂ e₃ e₄; same = refl };
-      }
+      record { does = λ ℓ. thin_refused ℓ (refusal r) after r refl o; same = refl }
 
   -- the kept positions stand at the front
   record ThinKept (c : ℕ) (after : List ℕ) : Type 0 where
     pub list : List ℕ
     pub none_of_faults : None Faults
-    pub thin : ThinnedDrive chosen nodes list
+    pub thin : ThinnedDrive M.chosen nodes list
     pub count : length list ≡ c
     pub whole : after ≡ list ++ drop (length list) positions
 
   thin_kept :
-      (said : Said) (after : List ℕ) (c : ℕ) → said ≡ answer (c ∷ []) → T.Outcome starts heads weights chosen nodes positions said after → ThinKept c after
+      (said : Said) (after : List ℕ) (c : ℕ) → said ≡ answer (c ∷ []) → T.Outcome M.starts M.heads M.weights M.chosen nodes positions said after → ThinKept c after
   thin_kept said after c e (T.refused f) = let z = ap size e in absurd (omega arith)
   thin_kept said after c e (T.thinned {kept = list} n t) =
       record {
@@ -117,7 +113,7 @@ module _ (starts heads weights chosen nodes positions : List ℕ) (alike : lengt
         whole = refl;
       }
 
-  module _ (after : List ℕ) (c : ℕ) (o : T.Outcome starts heads weights chosen nodes positions (answer (c ∷ [])) after) where
+  module _ (after : List ℕ) (c : ℕ) (o : T.Outcome M.starts M.heads M.weights M.chosen nodes positions (answer (c ∷ [])) after) where
     kept_of : ThinKept c after
     kept_of = thin_kept (answer (c ∷ [])) after c refl o
 
@@ -136,18 +132,10 @@ module _ (starts heads weights chosen nodes positions : List ℕ) (alike : lengt
         let b = length-append k.list (drop (length k.list) positions) in
         let d = k.count in omega arith
 
-    pub drive_kept : (w w' : Writer) → Writes w (out_text (kept (take c after))) w' → Thinned starts heads weights chosen nodes (Ok tt) w w'
+    pub drive_kept : (w w' : Writer) → Writes w (out_text (kept (take c after))) w' → Thinned M nodes (Ok tt) w w'
     drive_kept w w' t =
         record {
-          each =
-              λ M e₁ e₂ e₃ e₄.
-              record {
-                outs = kept kept_of.list ∷ [];
-                does =
-                    λ ℓ.
-                    thinned
-                    (subst (λ (Fs : List Fault). None Fs) (λ i. drive_faults (sym e₁ i) (sym e₂ i) (sym e₃ i) (sym e₄ i) nodes) kept_of.none_of_faults)
-                    (subst (λ (x : List ℕ). ThinnedDrive x nodes kept_of.list) (sym e₄) kept_of.thin);
-                wrote = line_one w (kept kept_of.list) w' (subst (λ (x : List ℕ). Writes w (out_text (kept x)) w') front_kept t);
-              };
+          outs = kept kept_of.list ∷ [];
+          does = λ ℓ. thinned kept_of.none_of_faults kept_of.thin;
+          wrote = line_one w (kept kept_of.list) w' (subst (λ (x : List ℕ). Writes w (out_text (kept x)) w') front_kept t);
         }

@@ -5,7 +5,7 @@ ghost use Rattle.hexlines.specs.Writers.{Writes};
 ghost use Rattle.maps.specs.Lists.{arc_lines, point_lines};
 ghost use Rattle.maps.specs.workings.Printing.{RowsFit};
 ghost use Rattle.road.specs.Lent.{SameSlices};
-ghost use Rattle.frames.specs.workings.Held.{BuildFits, Built, Laid, LayFits};
+ghost use Rattle.frames.specs.workings.Held.{BuildFits, Built, Laid, LayFits, map_lists};
 
 use hexlines::Writer;
 use maps::{find_cover, find_overlay, write_arcs, write_points};
@@ -31,7 +31,7 @@ fn lay(
     out: &mut Writer,
 ) -> Result<ArcCount, Refusal>
     requires { LayFits graph.now.starts.now graph.now.heads.now set.now rooms.old.starts.now rooms.old.heads.now rooms.old.weights.now out.old }
-    ensures laid { Laid points.0 (record { starts = graph.now.starts.now; heads = graph.now.heads.now; weights = graph.now.weights.now; chosen = set.now; over_starts = rooms.new.starts.now; over_heads = rooms.new.heads.now; over_weights = rooms.new.weights.now }) result out.old out.new }
+    ensures laid { Laid points.0 (map_lists graph.now set.now rooms.new.starts.now rooms.new.heads.now rooms.new.weights.now) result out.old out.new }
     ensures few { IfOk result (λ over. over.0 ≤ 4096) }
     ensures same_slices { SameSlices rooms.old rooms.new }
 {
@@ -58,7 +58,7 @@ fn lay_in(
     out: &mut Writer,
 ) -> Result<ArcCount, Refusal>
     requires { LayFits graph.now.starts.now graph.now.heads.now set.now over_starts.old over_heads.old over_weights.old out.old }
-    ensures laid { Laid points.0 (record { starts = graph.now.starts.now; heads = graph.now.heads.now; weights = graph.now.weights.now; chosen = set.now; over_starts = over_starts.new; over_heads = over_heads.new; over_weights = over_weights.new }) result out.old out.new }
+    ensures laid { Laid points.0 (map_lists graph.now set.now over_starts.new over_heads.new over_weights.new) result out.old out.new }
     ensures few { IfOk result (λ over. over.0 ≤ 4096) }
 {
     let mut rooms = GraphMut {
@@ -69,7 +69,8 @@ fn lay_in(
     lay(points, graph, set, &mut rooms, out)
 }
 
-// Prunes in ascending node order, builds the overlay and prints the map.
+// Prunes in ascending node order, builds the overlay and prints the map. The areas come one by one,
+// for the graph is lent from others of them.
 pub fn build(
     graph: &Graph,
     k: NodeCount,
@@ -80,7 +81,7 @@ pub fn build(
     out: &mut Writer,
 ) -> Result<ArcCount, Refusal>
     requires { BuildFits graph.now.starts.now graph.now.heads.now out.old }
-    ensures built { Built k.0 (record { starts = graph.now.starts.now; heads = graph.now.heads.now; weights = graph.now.weights.now; chosen = set.new; over_starts = over_starts.new; over_heads = over_heads.new; over_weights = over_weights.new }) result out.old out.new }
+    ensures built { Built k.0 (map_lists graph.now set.new over_starts.new over_heads.new over_weights.new) result out.old out.new }
     ensures few { IfOk result (λ over. over.0 ≤ 4096) }
 {
     let end = graph.starts.len();

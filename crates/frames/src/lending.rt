@@ -1,40 +1,33 @@
-// The graph and the overlay that stand in the areas.
-ghost use Rattle.std.specs.Prelude.{◌≡◌, ◌+◌, take};
+// The map that stands in the areas.
+ghost use Rattle.std.specs.Prelude.{◌≡◌};
 ghost use Rattle.frames.specs.Held.{MapFits};
+ghost use Rattle.frames.specs.Stages.{map_in};
+ghost use Rattle.frames.specs.workings.Held.{lists_of};
 
-use crate::{Areas, Sizes};
+use crate::{Areas, Lent, Sizes};
 use road::Graph;
 
 impl Areas {
-    // The graph.
-    pub(crate) fn graph(&self, map: Sizes) -> Graph<'_>
-        requires { MapFits map }
-        ensures starts { result.starts.now ≡ take (map.n.0 + 1) self.now.starts }
-        ensures heads { result.heads.now ≡ take map.m.0 self.now.heads }
-        ensures weights { result.weights.now ≡ take map.m.0 self.now.weights }
+    // The map of these sizes.
+    pub(crate) fn map(&self, sizes: Sizes) -> Lent<'_>
+        requires { MapFits sizes }
+        ensures { lists_of result ≡ map_in sizes self.now }
     {
-        let end = map.n.0 + 1;
-        let m = map.m.0;
-        Graph {
-            starts: &self.starts[..end],
-            heads: &self.heads[..m],
-            weights: &self.weights[..m],
-        }
-    }
-
-    // The overlay.
-    pub(crate) fn overlay(&self, map: Sizes) -> Graph<'_>
-        requires { MapFits map }
-        ensures starts { result.starts.now ≡ take (map.n.0 + 1) self.now.over_starts }
-        ensures heads { result.heads.now ≡ take map.over.0 self.now.over_heads }
-        ensures weights { result.weights.now ≡ take map.over.0 self.now.over_weights }
-    {
-        let end = map.n.0 + 1;
-        let over = map.over.0;
-        Graph {
-            starts: &self.over_starts[..end],
-            heads: &self.over_heads[..over],
-            weights: &self.over_weights[..over],
+        let n = sizes.n.0;
+        let m = sizes.m.0;
+        let over = sizes.over.0;
+        Lent {
+            graph: Graph {
+                starts: &self.starts[..n + 1],
+                heads: &self.heads[..m],
+                weights: &self.weights[..m],
+            },
+            set: &self.set[..n],
+            overlay: Graph {
+                starts: &self.over_starts[..n + 1],
+                heads: &self.over_heads[..over],
+                weights: &self.over_weights[..over],
+            },
         }
     }
 }

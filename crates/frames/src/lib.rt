@@ -7,7 +7,7 @@ mod lending;
 mod loading;
 mod steps;
 
-use road::{ArcCount, NodeCount};
+use road::{ArcCount, Graph, NodeCount};
 pub use steps::{first, take_end, take_line, take_unended};
 
 // A graph that is being read: the head's numbers, and how many arcs are read.
@@ -41,6 +41,14 @@ pub enum Phase {
 pub struct State {
     pub phase: Phase,
     pub lines: usize,
+}
+
+// A map that is lent, each part at its size: the graph, the cover and the overlay.
+#[derive(Clone, Copy)]
+pub(crate) struct Lent<'a> {
+    pub(crate) graph: Graph<'a>,
+    pub(crate) set: &'a [u8],
+    pub(crate) overlay: Graph<'a>,
 }
 
 // What the program is lent, each at its limit: the arcs as they are read, their starts, the cover

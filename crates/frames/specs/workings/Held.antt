@@ -1,6 +1,7 @@
 -- What the code is asked for, and what it leaves.
 use Rattle.std.specs.Prelude.{◌≡◌, List, ℕ, ◌+◌, ◌≤◌, length, take, Result, Ok, Err}
 use Rattle.road.specs.declared.ArcCount.{ArcCount}
+use Rattle.road.specs.declared.Graph.{Graph}
 use Rattle.road.specs.declared.Refusal.{Refusal}
 use Rattle.road.specs.Chains.{cover_faults}
 use Rattle.road.specs.Counting.{times}
@@ -14,11 +15,29 @@ use Rattle.maps.specs.Lists.{numbers, starts_of}
 use Rattle.readings.specs.declared.Line.{Line}
 use Rattle.readings.specs.declared.Line.TheVariants.{Head, Arc, Question, Drive}
 use Rattle.frames.specs.declared.Areas.{Areas}
+use Rattle.frames.specs.declared.Lent.{Lent}
 use Rattle.frames.specs.declared.Load.{Load}
 use Rattle.frames.specs.declared.Phase.{Phase}
 use Rattle.frames.specs.declared.Phase.TheVariants.{Begun, Loading, Asking, Stopped}
 use Rattle.frames.specs.Steps.{Map, Stage, asking, stopped, Builds, Loads, Answers, Thins, refused_by}
 use Rattle.frames.specs.Held.{Counted, MapRoom, Within}
+
+-- the lists of a graph, its cover and its overlay
+abbrev pub map_lists : Graph → List ℕ → List ℕ → List ℕ → List ℕ → Map
+map_lists graph chosen over_starts over_heads over_weights =
+    record {
+      starts = graph.starts.now;
+      heads = graph.heads.now;
+      weights = graph.weights.now;
+      chosen = chosen;
+      over_starts = over_starts;
+      over_heads = over_heads;
+      over_weights = over_weights;
+    }
+
+-- those of a map that is lent
+abbrev pub lists_of : Lent → Map
+lists_of map = map_lists map.graph map.set.now map.overlay.starts.now map.overlay.heads.now map.overlay.weights.now
 
 -- what a step does at any line's number: a stage and lines of which P holds, the lines being printed
 pub record Prints (P : ℕ → Stage → List Out → Type 0) (after : Stage) (w w' : Writer) : Type 0 where
@@ -40,11 +59,9 @@ Leaves P after (Err r) w w' = Refuses P r w w'
 abbrev pub Answered : Map → ℕ → ℕ → Result (Unit {0}) Refusal → Writer → Writer → Type 0
 Answered M a b = Leaves (λ ℓ. Answers ℓ M a b) (λ u. asking M)
 
--- the same of a drive, whatever the overlay
-pub record Thinned (starts heads weights chosen nodes : List ℕ) (answer : Result (Unit {0}) Refusal) (w w' : Writer) : Type 0 where
-  pub each :
-      (M : Map) → M.starts ≡ starts → M.heads ≡ heads → M.weights ≡ weights → M.chosen ≡ chosen →
-      Leaves (λ ℓ. Thins ℓ M nodes) (λ u. asking M) answer w w'
+-- the same of a drive
+abbrev pub Thinned : Map → List ℕ → Result (Unit {0}) Refusal → Writer → Writer → Type 0
+Thinned M nodes = Leaves (λ ℓ. Thins ℓ M nodes) (λ u. asking M)
 
 -- lengths that fit one another and the program's limits, and room for the map's lines
 pub record BuildFits (starts heads : List ℕ) (w : Writer) : Type 0 where
