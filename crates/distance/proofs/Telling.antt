@@ -6,7 +6,6 @@ use Prim.Native.Nat.{ℕ, zero, suc, ◌+◌, ◌≤◌, ◌<◌}
 use native.Mathlib.Decide.{ℕ_discrete}
 use native.Mathlib.Omega.{arith}
 use lib.ListN.{length}
-use Rattle.std.specs.Prelude.{Option, Some, None, is_some, false}
 use Rattle.paths.specs.Graphs.{Graph, Reaches, Any}
 use Rattle.paths.specs.Least.{Least, Empty, Told}
 use Rattle.road.specs.Faults.{InSet}
@@ -89,11 +88,6 @@ told_sum {X} {Y} {Z} (suc a) (suc b) (suc c) r t u v x =
     (told_some (a + b + c)
     (record { first = a; second = b; third = c; in_first = (t.some a refl).is; in_second = (u.some b refl).is; in_third = (v.some c refl).is; total = refl })
     (λ e s. omega (arith, s.total, (t.some a refl).least s.first s.in_first, (u.some b refl).least s.second s.in_second, (v.some c refl).least s.third s.in_third)))
-
--- a distance that is missing has the label 0
-pub none_label : (d : Option ℕ) → is_some d ≡ false → label_of d ≡ 0
-none_label None e = refl
-none_label (Some w) e = absurd (let z : ◌≡◌ {A = ℕ} 0 1 = cc in omega arith)
 
 -- the ways in which the lesser comes out
 module _ (l m : ℕ) where

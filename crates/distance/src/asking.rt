@@ -19,7 +19,7 @@ use road::{Graph, GraphMut};
 use search::{Queue, search};
 use turning::turn;
 
-impl<'a> HandWork<'a> {
+impl HandWork<'_> {
     // Fills the queue, and what goes with it, with zeros.
     fn clear_queue(&mut self)
         ensures heap { self.new.heap.now ≡ replicate (length self.old.heap.now) 0 }
@@ -36,7 +36,7 @@ impl<'a> HandWork<'a> {
     }
 
     // Labels the nodes of the overlay by what they are from one of them.
-    pub fn search(&mut self, overlay: &Graph, from: usize)
+    pub(crate) fn search(&mut self, overlay: &Graph, from: usize)
         requires searchable { SearchableIn overlay.now self.old }
         requires from_bound { from < nodes_of overlay.now.starts.now }
         ensures row { Row (road_of overlay.now) self.old.blocked.now from self.new.labels.now }
@@ -50,18 +50,6 @@ impl<'a> HandWork<'a> {
         };
         search(overlay, blocked, from, self.labels, &mut queue);
     }
-}
-
-// Fills the graph turned round with zeros.
-fn clear_back(back: &mut GraphMut)
-    ensures starts { back.new.starts.now ≡ replicate (length back.old.starts.now) 0 }
-    ensures heads { back.new.heads.now ≡ replicate (length back.old.heads.now) 0 }
-    ensures weights { back.new.weights.now ≡ replicate (length back.old.weights.now) 0 }
-    ensures same_slices { SameSlices back.old back.new }
-{
-    back.starts.fill(0);
-    back.heads.fill(0);
-    back.weights.fill(0);
 }
 
 // The distance in the overlay from s to t.
@@ -138,7 +126,7 @@ pub fn ask_pair(
         t,
     };
     let through = through_overlay(overlay, &ways, hand);
-    clear_back(back);
+    back.clear();
     outward.fill(0);
     inward.fill(0);
     hand.labels.fill(0);

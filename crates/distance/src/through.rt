@@ -1,5 +1,5 @@
 // The ways through the overlay: in at one node of the set, and out at another.
-ghost use Rattle.std.specs.Prelude.{◌≡◌, ◌<◌, length};
+ghost use Rattle.std.specs.Prelude.{◌≡◌, ◌<◌, length, Some};
 ghost use Rattle.road.specs.Lent.{road_of};
 ghost use Rattle.paths.specs.Least.{Told};
 ghost use Rattle.road.specs.Roads.{nodes_of};
@@ -13,24 +13,24 @@ use road::Graph;
 
 // From s over an entry at the distance `first`, through the overlay, whose row of that entry is
 // given, and out at b.
-fn through_exit(ways: &Ways, labels: &[u64], first: Option<u64>, b: usize) -> Option<u64>
+fn through_exit(ways: &Ways, labels: &[u64], first: u64, b: usize) -> Option<u64>
     requires rows { RowsOf ways.now (length labels.now) }
     requires b_in_bounds { b < length labels.now }
     requires small { Small labels.now }
-    requires modest { Modest (label_of first) }
-    ensures { Told (Sum (Says (label_of first)) (Says (label_at labels.now b)) (Gate ways.now.set.now ways.now.inward.now ways.now.t b)) (label_of result) }
+    requires modest { Modest (label_of (Some first)) }
+    ensures { Told (Sum (Says (label_of (Some first))) (Says (label_at labels.now b)) (Gate ways.now.set.now ways.now.inward.now ways.now.t b)) (label_of result) }
 {
     let middle = shown(labels[b]);
     let last = gate(ways.set, ways.inward, ways.t, b);
-    sum(first, middle, last)
+    sum(Some(first), middle, last)
 }
 
 // The least over all exits.
-fn through_exits(ways: &Ways, labels: &[u64], first: Option<u64>) -> Option<u64>
+fn through_exits(ways: &Ways, labels: &[u64], first: u64) -> Option<u64>
     requires rows { RowsOf ways.now (length labels.now) }
     requires small { Small labels.now }
-    requires modest { Modest (label_of first) }
-    ensures { Told (Exits ways.now.set.now labels.now ways.now.inward.now ways.now.t (label_of first) (length ways.now.set.now)) (label_of result) }
+    requires modest { Modest (label_of (Some first)) }
+    ensures { Told (Exits ways.now.set.now labels.now ways.now.inward.now ways.now.t (label_of (Some first)) (length ways.now.set.now)) (label_of result) }
 {
     let mut best = None;
     for b in 0..ways.set.len() {
@@ -47,10 +47,7 @@ fn through_entry(overlay: &Graph, ways: &Ways, hand: &mut HandWork, a: usize) ->
     ensures told { Told (Through (road_of overlay.now) ways.now.set.now ways.now.outward.now ways.now.inward.now ways.now.s ways.now.t a) (label_of result) }
     ensures leaves { Leaves overlay.now hand.old hand.new }
 {
-    let first = gate(ways.set, ways.outward, ways.s, a);
-    if first.is_none() {
-        return None;
-    }
+    let first = gate(ways.set, ways.outward, ways.s, a)?;
     hand.search(overlay, a);
     through_exits(ways, hand.labels, first)
 }
