@@ -7,7 +7,7 @@ use native.Mathlib.Omega.{arith}
 use lib.ListN.{length, get_or}
 use Rattle.road.specs.declared.Refusal.{Refusal}
 use Rattle.road.specs.declared.Refusal.TheVariants.{Overlay}
-use Rattle.std.specs.Prelude.{Ok, Err}
+use Rattle.std.specs.Prelude.{Ok, Err, is_ok}
 use Rattle.std.specs.declared.ops.Range.{Range}
 use Rattle.road.specs.workings.Scans.{RowOf}
 use Rattle.road.specs.Faults.{InSet, graph_faults}
@@ -52,6 +52,15 @@ module _ (chosen starts heads : List ℕ) where
 
 pub graph_sound : (starts heads weights : List ℕ) (v : Verdict) → Judges (graph_faults overlay_limits starts heads weights) v → v ≡ Ok tt → Sound overlay_limits starts heads weights
 graph_sound starts heads weights v j e = sound_of overlay_limits starts heads weights (j.passed e)
+
+-- a verdict whose refusal was changed passes where the first did, and refuses where it did
+pub map_passed : {v w : Verdict} → is_ok w ≡ is_ok v → w ≡ Ok tt → v ≡ Ok tt
+map_passed {v = Ok x} e p = refl
+map_passed {v = Err r} e p = absurd (let z : ◌≡◌ {A = ℕ} 0 1 = cc in omega arith)
+
+pub map_refused : {v w : Verdict} {s : Refusal} → is_ok w ≡ is_ok v → w ≡ Err s → (r : Refusal) × (v ≡ Err r)
+map_refused {v = Ok x} e p = absurd (let z : ◌≡◌ {A = ℕ} 0 1 = cc in omega arith)
+map_refused {v = Err r} e p = (r, refl)
 
 module _ (chosen starts heads weights : List ℕ) where
   pub row_passes : (u : ℕ) → RowEnds chosen starts heads u → JudgesRow chosen starts heads weights u (Ok tt)

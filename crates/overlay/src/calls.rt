@@ -11,7 +11,7 @@ use crate::writing::write_arcs;
 use road::{ArcCount, Graph, GraphMut, Refusal, check_lengths, check_road_and_set};
 use search::Queue;
 
-impl<'a> Work<'a> {
+impl Work<'_> {
     // Fills the work with zeros.
     fn clear(&mut self)
         ensures labels { self.new.labels.now ≡ replicate (length self.old.labels.now) 0 }
@@ -54,13 +54,13 @@ fn build(
         waiting: 0,
     };
     let count = count_arcs(graph, set, work.labels, &mut queue);
-    if lack_room(count, rooms.heads.len()) {
-        work.labels.fill(0);
-        return Err(Refusal::Room);
-    }
-    let written = write_arcs(graph, set, rooms, work.labels, &mut queue);
+    let answer = if lack_room(count, rooms.heads.len()) {
+        Err(Refusal::Room)
+    } else {
+        Ok(write_arcs(graph, set, rooms, work.labels, &mut queue))
+    };
     work.labels.fill(0);
-    Ok(written)
+    answer
 }
 
 // Builds the overlay of the set: its starts, and its arcs in the two rooms. The answer is the

@@ -18,10 +18,7 @@ fn check_row(set: &[u8], overlay: &Graph, tail: usize) -> Result<(), Refusal>
     let heads = overlay.heads;
     let row = overlay.row(tail);
     for p in row.start..row.end {
-        if set[tail] != 1 {
-            return Err(Refusal::Overlay);
-        }
-        if set[heads[p] as usize] != 1 {
+        if set[tail] != 1 || set[heads[p] as usize] != 1 {
             return Err(Refusal::Overlay);
         }
     }
@@ -32,9 +29,7 @@ fn check_row(set: &[u8], overlay: &Graph, tail: usize) -> Result<(), Refusal>
 pub fn check_overlay(set: &[u8], overlay: &Graph) -> Result<(), Refusal>
     ensures { Judged (overlay_fault set.now overlay.now.starts.now overlay.now.heads.now overlay.now.weights.now) result }
 {
-    let Ok(()) = check_graph(overlay, overlay_limits()) else {
-        return Err(Refusal::Overlay);
-    };
+    check_graph(overlay, overlay_limits()).map_err(|_| Refusal::Overlay)?;
     if overlay.node_count().0 != set.len() {
         return Err(Refusal::Overlay);
     }

@@ -7,7 +7,7 @@ ghost use Rattle.overlay.specs.workings.Writing.{Fits, Found, RowRoom, Writable,
 use crate::Row;
 use road::ArcCount;
 
-impl<'a> Row<'a> {
+impl Row<'_> {
     // Whether an overlay arc leads from the tail to v.
     fn is_head(&self, v: usize) -> bool
         requires { v < length self.now.set.now }
@@ -50,7 +50,8 @@ impl<'a> Row<'a> {
     }
 
     // Writes the row into the rooms that it is lent, and gives the count of its arcs. The labels
-    // are one more than weights.
+    // are one more than weights. Two slices, the part of the rooms from the running count on: so
+    // document 01 asks it.
     pub fn write(&self, heads: &mut [u32], weights: &mut [u32]) -> ArcCount
         requires set_len_bound { length self.now.set.now ≤ 4096 }
         requires weights_len { length weights.old ≡ length heads.old }

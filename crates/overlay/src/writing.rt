@@ -23,7 +23,7 @@ fn write_tail(
     requires searching { SearchingOf graph.now set.now labels.old queue.old }
     requires light { Light (road_of graph.now) set.now }
     requires enough { Enough (road_of graph.now) set.now (length rooms.old.heads.now) }
-    requires over_weights_len { length rooms.old.weights.now ≡ length rooms.old.heads.now }
+    requires weights_room { length rooms.old.weights.now ≡ length rooms.old.heads.now }
     requires tail_bound { tail < nodes_of graph.now.starts.now }
     requires arcs { Arcs (road_of graph.now) set.now tail count.0 }
     ensures row_written { RowWritten (road_of graph.now) set.now tail rooms.old.heads.now rooms.old.weights.now rooms.new.heads.now rooms.new.weights.now count.0 result.0 }
@@ -52,8 +52,8 @@ pub fn write_arcs(
     requires searching { SearchingOf graph.now set.now labels.old queue.old }
     requires light { Light (road_of graph.now) set.now }
     requires enough { Enough (road_of graph.now) set.now (length rooms.old.heads.now) }
-    requires over_starts_len { length rooms.old.starts.now ≡ nodes_of graph.now.starts.now + 1 }
-    requires over_weights_len { length rooms.old.weights.now ≡ length rooms.old.heads.now }
+    requires starts_room { length rooms.old.starts.now ≡ nodes_of graph.now.starts.now + 1 }
+    requires weights_room { length rooms.old.weights.now ≡ length rooms.old.heads.now }
     ensures building { Building (road_of graph.now) set.now (nodes_of graph.now.starts.now) rooms.old.heads.now rooms.old.weights.now rooms.new.starts.now rooms.new.heads.now rooms.new.weights.now result.0 }
     ensures same_rooms { SameSlices rooms.old rooms.new }
     ensures queue { QueueStays queue.old queue.new }

@@ -8,7 +8,7 @@ use Rattle.overlay.proofs.Stays.{stays_none, stays_then}
 use Rattle.overlay.proofs.writing.write_arcs.Goals as goal
 
 pub loop-tail-init : goal.loop-tail-init
-loop-tail-init c = (building_none _ _ _ _ c.args.rooms.now.starts.now c.requires.over_starts_len, record { starts = refl; heads = refl; weights = refl }, refl, stays_none _)
+loop-tail-init c = (building_none _ _ _ _ c.args.rooms.now.starts.now c.requires.starts_room, record { starts = refl; heads = refl; weights = refl }, refl, stays_none _)
 
 pub overflow_cast-rooms : goal.overflow_cast-rooms
 overflow_cast-rooms c =
