@@ -192,21 +192,24 @@ module _ (starts heads weights chosen b₁ b₂ b₃ : List ℕ) (full : length 
           space = omega (arith, o.ends, m.count, few, g.space, g.bytes, g.nodes);
         }
 
+    same_nodes : (l₁ : List ℕ) → l₁ ≡ a₁ → nodes_of l₁ ≡ nodes_of starts
+    same_nodes l₁ e₁ = omega (arith, ap length e₁, made.is.long)
+
     -- what is lent to be printed is what the room holds
     pub print_fits :
         (w : Writer) → LayFits starts heads chosen b₁ b₂ b₃ w →
         (l₁ l₂ l₃ : List ℕ) → l₁ ≡ a₁ → l₂ ≡ a₂ → l₃ ≡ a₃ →
-        RowsFit l₁ (take c.0 l₂) (take c.0 l₃) (length chosen) (w.at + 11 + 7 * length chosen) (length w.buf.now)
+        RowsFit l₁ (take c.0 l₂) (take c.0 l₃) (nodes_of l₁) (w.at + 11 + 7 * length chosen) (length w.buf.now)
     print_fits w g l₁ l₂ l₃ e₁ e₂ e₃ =
         let h : made.hs ≡ take c.0 l₂ = sym front_heads ∙ ap (take c.0) (sym e₂) in
         let v : made.ws ≡ take c.0 l₃ = sym front_weights ∙ ap (take c.0) (sym e₃) in
-        coe 0 1 (i. RowsFit (sym e₁ i) (h i) (v i) (sym g.bytes i) (w.at + 11 + 7 * length chosen) (length w.buf.now)) (rows_of w made_few.2 g)
+        coe 0 1 (i. RowsFit (sym e₁ i) (h i) (v i) (sym (same_nodes l₁ e₁) i) (w.at + 11 + 7 * length chosen) (length w.buf.now)) (rows_of w made_few.2 g)
 
     pub laid_built :
-        (points : ℕ) (w w' : Writer) (l₁ l₂ l₃ : List ℕ) → l₁ ≡ a₁ → l₂ ≡ a₂ → l₃ ≡ a₃ → length chosen ≡ nodes_of starts →
-        Writes w (text_of (counts points (length (take c.0 l₂)) ∷ point_lines 0 chosen ++ arc_lines l₁ (take c.0 l₂) (take c.0 l₃) (length chosen))) w' →
+        (points : ℕ) (w w' : Writer) (l₁ l₂ l₃ : List ℕ) → l₁ ≡ a₁ → l₂ ≡ a₂ → l₃ ≡ a₃ →
+        Writes w (text_of (counts points (length (take c.0 l₂)) ∷ point_lines 0 chosen ++ arc_lines l₁ (take c.0 l₂) (take c.0 l₃) (nodes_of l₁))) w' →
         Laid points (map_with a₁ a₂ a₃) (Ok c) w w'
-    laid_built points w w' l₁ l₂ l₃ e₁ e₂ e₃ bytes t =
+    laid_built points w w' l₁ l₂ l₃ e₁ e₂ e₃ t =
         let m = made in
         record {
           each =
@@ -228,7 +231,7 @@ module _ (starts heads weights chosen b₁ b₂ b₃ : List ℕ) (full : length 
                     (i.
                     Writes w
                     (text_of
-                    (counts points (length (take c.0 (e₂ i))) ∷ point_lines 0 chosen ++ arc_lines (e₁ i) (take c.0 (e₂ i)) (take c.0 (e₃ i)) (bytes i)))
+                    (counts points (length (take c.0 (e₂ i))) ∷ point_lines 0 chosen ++ arc_lines (e₁ i) (take c.0 (e₂ i)) (take c.0 (e₃ i)) (same_nodes l₁ e₁ i)))
                     w')
                     t;
               };

@@ -5,6 +5,7 @@ ghost use Rattle.hexlines.specs.Writers.{Writes};
 ghost use Rattle.maps.specs.Lists.{arc_lines, point_lines};
 ghost use Rattle.maps.specs.workings.Printing.{RowsFit};
 ghost use Rattle.road.specs.Lent.{SameSlices};
+ghost use Rattle.road.specs.Roads.{nodes_of};
 ghost use Rattle.frames.specs.workings.Held.{BuildFits, Built, Laid, LayFits, map_lists};
 
 use hexlines::Writer;
@@ -14,12 +15,12 @@ use road::{ArcCount, Graph, GraphMut, NodeCount, Refusal};
 // Prints the map.
 fn print_map(points: NodeCount, set: &[u8], overlay: &Graph, out: &mut Writer)
     requires set_in_bounds { out.old.at + 11 + 7 * length set.now ≤ length out.old.buf.now }
-    requires rows_fit { RowsFit overlay.now.starts.now overlay.now.heads.now overlay.now.weights.now (length set.now) (out.old.at + 11 + 7 * length set.now) (length out.old.buf.now) }
-    ensures { Writes out.old (text_of (counts points.0 (length overlay.now.heads.now) ∷ point_lines 0 set.now ++ arc_lines overlay.now.starts.now overlay.now.heads.now overlay.now.weights.now (length set.now))) out.new }
+    requires rows_fit { RowsFit overlay.now.starts.now overlay.now.heads.now overlay.now.weights.now (nodes_of overlay.now.starts.now) (out.old.at + 11 + 7 * length set.now) (length out.old.buf.now) }
+    ensures { Writes out.old (text_of (counts points.0 (length overlay.now.heads.now) ∷ point_lines 0 set.now ++ arc_lines overlay.now.starts.now overlay.now.heads.now overlay.now.weights.now (nodes_of overlay.now.starts.now))) out.new }
 {
     out.counts(points.0, overlay.heads.len());
     write_points(out, set);
-    write_arcs(out, set.len(), overlay);
+    write_arcs(out, overlay);
 }
 
 // Builds the overlay of the cover and prints the map.

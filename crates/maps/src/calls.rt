@@ -1,4 +1,5 @@
-// The calls, each with work of its own: what they say does not depend on it.
+// The calls, each with work of its own: what they say does not depend on it. The work is fixed arrays
+// at the program's limits, for nothing is taken from the heap.
 ghost use Rattle.road.specs.Lent.{SameSlices};
 ghost use Rattle.cover.specs.Calls.{said_of as cover_said};
 ghost use Rattle.overlay.specs.Calls.{said_of as overlay_said};

@@ -20,7 +20,8 @@ fn count_below(tails: &[u32], v: usize) -> u32
     tails.iter().filter(|t| (**t as usize) < v).count() as u32
 }
 
-// The starts of arcs with these tails.
+// The starts of arcs with these tails. Each counts over all tails: `belows` is stated for tails in
+// any order.
 pub fn write_starts(tails: &[u32], starts: &mut [u32])
     requires { length tails.now ≤ 4096 }
     ensures { starts.new ≡ belows tails.now 0 (length starts.old) }

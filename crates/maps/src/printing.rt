@@ -4,6 +4,7 @@ ghost use Rattle.hexlines.specs.Outputs.{text_of};
 ghost use Rattle.hexlines.specs.Writers.{Writes};
 ghost use Rattle.maps.specs.Lists.{arc_lines, point_lines, row_lines};
 ghost use Rattle.maps.specs.workings.Printing.{RowsFit};
+ghost use Rattle.road.specs.Roads.{nodes_of};
 
 use hexlines::Writer;
 use road::Graph;
@@ -21,24 +22,24 @@ pub fn write_points(out: &mut Writer, set: &[u8])
     }
 }
 
-// A line for each arc of one tail, which stand here.
-fn write_row(out: &mut Writer, tail: usize, row: Range<usize>, heads: &[u32], weights: &[u32])
+// A line for each arc of one tail, whose arcs stand in this row.
+fn write_row(out: &mut Writer, tail: usize, row: Range<usize>, graph: &Graph)
     requires rises { row.start ≤ row.end }
-    requires within { (row.end ≤ length heads.now) × (row.end ≤ length weights.now) }
+    requires within { (row.end ≤ length graph.now.heads.now) × (row.end ≤ length graph.now.weights.now) }
     requires room { out.old.at + 19 * (row.end - row.start) ≤ length out.old.buf.now }
-    ensures { Writes out.old (text_of (row_lines heads.now weights.now tail row.start (row.end - row.start))) out.new }
+    ensures { Writes out.old (text_of (row_lines graph.now.heads.now graph.now.weights.now tail row.start (row.end - row.start))) out.new }
 {
     for p in row.start..row.end {
-        out.arc(tail, heads[p], weights[p]);
+        out.arc(tail, graph.heads[p], graph.weights[p]);
     }
 }
 
 // A line for each arc, in the layout's order.
-pub fn write_arcs(out: &mut Writer, n: usize, graph: &Graph)
-    requires { RowsFit graph.now.starts.now graph.now.heads.now graph.now.weights.now n out.old.at (length out.old.buf.now) }
-    ensures { Writes out.old (text_of (arc_lines graph.now.starts.now graph.now.heads.now graph.now.weights.now n)) out.new }
+pub fn write_arcs(out: &mut Writer, graph: &Graph)
+    requires { RowsFit graph.now.starts.now graph.now.heads.now graph.now.weights.now (nodes_of graph.now.starts.now) out.old.at (length out.old.buf.now) }
+    ensures { Writes out.old (text_of (arc_lines graph.now.starts.now graph.now.heads.now graph.now.weights.now (nodes_of graph.now.starts.now))) out.new }
 {
-    for u in 0..n {
-        write_row(out, u, graph.row(u), graph.heads, graph.weights);
+    for u in 0..graph.node_count().0 {
+        write_row(out, u, graph.row(u), graph);
     }
 }

@@ -15,7 +15,7 @@ print_map-requires-clause-rows_fit c =
 pub returns-clause-laid : goal.returns-clause-laid
 returns-clause-laid c =
     let e = c.lent-room.ensures in
-    laid_built _ _ _ _ _ _ _ c.requires.room c.in_ok-arcs.arcs _ _ _ c.in_ok-arcs.ensures.found _ _ _ _ _ _ e.starts e.heads e.weights c.requires.bytes
+    laid_built _ _ _ _ _ _ _ c.requires.room c.in_ok-arcs.arcs _ _ _ c.in_ok-arcs.ensures.found _ _ _ _ _ _ e.starts e.heads e.weights
     c.print_map.ensures
 
 pub returns-clause-few : goal.returns-clause-few
