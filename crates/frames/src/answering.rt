@@ -56,8 +56,8 @@ pub fn ask(
 {
     let map = areas.map(sizes);
     match line {
-        Line::Question(a, b) => answer_question(&map, a, b, out),
+        Line::Question { from, to } => answer_question(&map, from, to, out),
         Line::Drive(count) => answer_drive(&map, &nodes[..count], out),
-        Line::Head(..) | Line::Arc(..) => Err(Refusal::Line),
+        Line::Head { .. } | Line::Arc { .. } => Err(Refusal::Line),
     }
 }

@@ -59,7 +59,7 @@ pub fn take_head(line: Line, areas: &mut Areas, out: &mut Writer) -> Result<Phas
     ensures leaves { (nodes : List ℕ) → Leaves (Judged begun (Some line) nodes) (λ p. stage_by p areas.new) result out.old out.new }
     ensures kept { IfOk result (Kept (λ ℓ. ℓ ≡ 1)) }
 {
-    let Line::Head(n, m, k) = line else {
+    let Line::Head { n, m, k } = line else {
         return Err(Refusal::Line);
     };
     let count = ArcCount(0);
@@ -85,7 +85,7 @@ pub fn take_arc(
     ensures leaves { (nodes : List ℕ) → Leaves (Judged (loading_in load areas.old) (Some line) nodes) (λ p. stage_by p areas.new) result out.old out.new }
     ensures kept { IfOk result (Kept (λ ℓ. ℓ ≡ load.count.0 + 2)) }
 {
-    let Line::Arc(tail, head, weight) = line else {
+    let Line::Arc { tail, head, weight } = line else {
         return Err(Refusal::Line);
     };
     let count = load.count.0;

@@ -52,7 +52,7 @@ fn step(phase: Phase, bytes: &[u8], areas: &mut Areas, out: &mut Writer) -> Resu
             ask(map, line, &nodes, areas, out)?;
             Ok(phase)
         }
-        // never met: the phase goes on
+        // Never met: the phase goes on (`going`).
         Phase::Stopped => Err(Refusal::Line),
     }
 }

@@ -26,11 +26,11 @@ fn read_head(rest: &[u8]) -> Option<Line>
     if 512 < n || 2048 < m {
         return None;
     }
-    Some(Line::Head(
-        NodeCount(n as usize),
-        ArcCount(m as usize),
-        NodeCount(usize::from(k)),
-    ))
+    Some(Line::Head {
+        n: NodeCount(n as usize),
+        m: ArcCount(m as usize),
+        k: NodeCount(usize::from(k)),
+    })
 }
 
 // An arc: tail(2) head(2) weight(4), after its kind.
@@ -40,8 +40,11 @@ fn read_arc(rest: &[u8]) -> Option<Line>
     let &[t1, t0, h1, h0, w3, w2, w1, w0] = rest else {
         return None;
     };
-    let weight = u32::from_be_bytes([w3, w2, w1, w0]);
-    Some(Line::Arc(two(t1, t0), two(h1, h0), weight))
+    Some(Line::Arc {
+        tail: two(t1, t0),
+        head: two(h1, h0),
+        weight: u32::from_be_bytes([w3, w2, w1, w0]),
+    })
 }
 
 // A question: from(2) to(2), after its kind.
@@ -51,7 +54,10 @@ fn read_question(rest: &[u8]) -> Option<Line>
     let &[f1, f0, t1, t0] = rest else {
         return None;
     };
-    Some(Line::Question(two(f1, f0), two(t1, t0)))
+    Some(Line::Question {
+        from: two(f1, f0),
+        to: two(t1, t0),
+    })
 }
 
 // A drive: count(1) nodes(2 each), after its kind. The nodes go to the front of the slice.
@@ -68,6 +74,7 @@ fn read_drive(rest: &[u8], nodes: &mut [u32]) -> Option<Line>
     if pairs.len() != count || 64 < count || nodes.len() < count {
         return None;
     }
+    // By position: after a zip with `iter_mut` a proof knows no entry.
     for (i, &[high, low]) in pairs.iter().enumerate() {
         nodes[i] = two(high, low);
     }

@@ -32,6 +32,7 @@ pub fn read_text<'a>(line: &[u8], room: &'a mut [u8; MOST_BYTES]) -> Option<&'a 
     if room.len() < pairs.len() {
         return None;
     }
+    // By position: after a zip with `iter_mut` a proof knows no entry.
     for (i, &[high, low]) in pairs.iter().enumerate() {
         room[i] = read_pair(high, low)?;
     }

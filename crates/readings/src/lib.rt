@@ -7,12 +7,23 @@ mod characters;
 pub use bytes::read_line;
 use road::{ArcCount, NodeCount};
 
-// What a line says: n, m and k; an arc's tail, head and weight; a question's two nodes; how many
-// nodes a drive has.
+// What a line says. Of a drive it is how many nodes it has: the nodes stay in the caller's slice, of
+// which the contract tells every entry.
 #[derive(Clone, Copy)]
 pub enum Line {
-    Head(NodeCount, ArcCount, NodeCount),
-    Arc(u32, u32, u32),
-    Question(u32, u32),
+    Head {
+        n: NodeCount,
+        m: ArcCount,
+        k: NodeCount,
+    },
+    Arc {
+        tail: u32,
+        head: u32,
+        weight: u32,
+    },
+    Question {
+        from: u32,
+        to: u32,
+    },
     Drive(usize),
 }
