@@ -16,9 +16,9 @@ fn digit_of(d: u8) -> u8
     b'A' + (d - 10)
 }
 
-impl<'a> Writer<'a> {
+impl Writer<'_> {
     // The borrow goes into the writer, beside the place.
-    pub fn new(buf: &'a mut [u8], at: usize) -> Writer<'a>
+    pub fn new(buf: &mut [u8], at: usize) -> Writer<'_>
         ensures { (result.buf ≡ buf.entry) × (result.at ≡ at) }
     {
         Writer { buf, at }
