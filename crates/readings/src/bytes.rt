@@ -3,8 +3,8 @@ ghost use Rattle.std.specs.Prelude.{◌∷◌};
 ghost use Rattle.readings.specs.Frames.{Reads};
 ghost use Rattle.readings.specs.workings.Readings.{TellsFixed, TellsFrame, TwoOf};
 
-use crate::Line;
 use crate::characters::{MOST_BYTES, read_text};
+use crate::{Line, MOST_ARCS, MOST_DRIVE, MOST_NODES};
 use road::{ArcCount, NodeCount};
 
 // The number in two bytes, high byte first.
@@ -21,14 +21,14 @@ fn read_head(rest: &[u8]) -> Option<Line>
     let &[n1, n0, m1, m0, k] = rest else {
         return None;
     };
-    let n = two(n1, n0);
-    let m = two(m1, m0);
-    if 512 < n || 2048 < m {
+    let n = two(n1, n0) as usize;
+    let m = two(m1, m0) as usize;
+    if MOST_NODES < n || MOST_ARCS < m {
         return None;
     }
     Some(Line::Head {
-        n: NodeCount(n as usize),
-        m: ArcCount(m as usize),
+        n: NodeCount(n),
+        m: ArcCount(m),
         k: NodeCount(usize::from(k)),
     })
 }
@@ -71,7 +71,7 @@ fn read_drive(rest: &[u8], nodes: &mut [u32]) -> Option<Line>
         return None;
     };
     let count = usize::from(*count);
-    if pairs.len() != count || 64 < count || nodes.len() < count {
+    if pairs.len() != count || MOST_DRIVE < count || nodes.len() < count {
         return None;
     }
     // By position: after a zip with `iter_mut` a proof knows no entry.
