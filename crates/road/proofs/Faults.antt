@@ -4,9 +4,8 @@ use mathlib.Core.Logic.{inl, inr, ⊎_elim, ◌≢◌}
 use mathlib.Core.List.{List, [], ◌∷◌}
 use Prim.Native.Nat.{ℕ, zero, suc, ◌+◌, ◌≤◌, ◌<◌}
 use native.Mathlib.Decide.{dec_lt, ℕ_discrete}
-use native.Mathlib.Numerals.{add-one}
 use native.Mathlib.Omega.{arith}
-use lib.ListN.{length, get_or, take}
+use lib.ListN.{length, get_or}
 use Rattle.paths.specs.Graphs.{Proper, Lighter}
 use Rattle.road.specs.declared.Limits.{Limits}
 use Rattle.road.specs.declared.Refusal.{Refusal}
@@ -46,25 +45,16 @@ LongAt [] i = Unit {0}
 LongAt (p ∷ l) zero = p.0 ≡ p.1
 LongAt (p ∷ l) (suc i) = LongAt l i
 
--- of the pairs up to one that is unlike, and of those up to and with one that is not
+-- by the places of the pairs: one that is unlike, or none
 pub unlike_at : (pairs : List (ℕ × ℕ)) (i : ℕ) → i < length pairs → (get_or pairs i (0, 0)).0 ≢ (get_or pairs i (0, 0)).1 → Unlike pairs
 unlike_at [] i h d = omega arith
 unlike_at (p ∷ l) zero h d = inl d
 unlike_at (p ∷ l) (suc i) h d = inr (unlike_at l i (omega arith) d)
 
-unlike_more :
-    (pairs : List (ℕ × ℕ)) (i : ℕ) → i < length pairs → (Unlike (take i pairs) → ⊥) → (get_or pairs i (0, 0)).0 ≡ (get_or pairs i (0, 0)).1 →
-    Unlike (take (suc i) pairs) → ⊥
-unlike_more [] i h n e u = omega arith
-unlike_more (p ∷ l) zero h n e (inl d) = d e
-unlike_more (p ∷ l) zero h n e (inr u) = elim u [ ]
-unlike_more (p ∷ l) (suc i) h n e (inl d) = n (inl d)
-unlike_more (p ∷ l) (suc i) h n e (inr u) = unlike_more l i (omega arith) (λ v. n (inr v)) e u
-
-pub unlike_next :
-    (pairs : List (ℕ × ℕ)) (i : ℕ) → i < length pairs → (Unlike (take i pairs) → ⊥) → (get_or pairs i (0, 0)).0 ≡ (get_or pairs i (0, 0)).1 →
-    Unlike (take (i + 1) pairs) → ⊥
-unlike_next pairs i h n e = subst (λ (x : ℕ). Unlike (take x pairs) → ⊥) (sym (add-one i)) (unlike_more pairs i h n e)
+pub none_unlike : (pairs : List (ℕ × ℕ)) → ((i : ℕ) → i < length pairs → (get_or pairs i (0, 0)).0 ≡ (get_or pairs i (0, 0)).1) → Unlike pairs → ⊥
+none_unlike (p ∷ l) f (inl d) = d (f 0 (omega arith))
+none_unlike (p ∷ l) f (inr u) = none_unlike l (λ i h. f (suc i) (omega arith)) u
+none_unlike [] f u = elim u [ ]
 
 pub long_at : (pairs : List (ℕ × ℕ)) → (Unlike pairs → ⊥) → (i : ℕ) → LongAt pairs i
 long_at [] n i = tt

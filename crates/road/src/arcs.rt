@@ -13,12 +13,7 @@ fn head_falls(graph: &Graph, tail: usize, p: usize) -> bool
     requires { Placed graph.now.starts.now graph.now.heads.now graph.now.weights.now tail p }
     ensures { Tells result (HeadFalls graph.now.starts.now graph.now.heads.now p) }
 {
-    let starts = graph.starts;
-    let heads = graph.heads;
-    if p <= starts[tail] as usize {
-        return false;
-    }
-    heads[p] <= heads[p - 1]
+    (graph.starts[tail] as usize) < p && graph.heads[p] <= graph.heads[p - 1]
 }
 
 // The faults of the arc at place p, one of tail's.
@@ -26,20 +21,9 @@ fn check_arc(graph: &Graph, limits: Limits, tail: usize, p: usize) -> Result<(),
     requires { Placed graph.now.starts.now graph.now.heads.now graph.now.weights.now tail p }
     ensures { Judges (arc_faults limits graph.now.starts.now graph.now.heads.now graph.now.weights.now p) result }
 {
-    let heads = graph.heads;
-    let weights = graph.weights;
-    let head = heads[p] as usize;
-    let most = limits.weight;
-    if graph.node_count().0 <= head {
-        return Err(Refusal::Arcs);
-    }
-    if head == tail {
-        return Err(Refusal::Arcs);
-    }
-    if head_falls(graph, tail, p) {
-        return Err(Refusal::Arcs);
-    }
-    if most < weights[p] {
+    let head = graph.heads[p] as usize;
+    let outside = graph.node_count().0 <= head;
+    if outside || head == tail || head_falls(graph, tail, p) || limits.weight < graph.weights[p] {
         return Err(Refusal::Arcs);
     }
     Ok(())

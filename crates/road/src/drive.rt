@@ -17,10 +17,7 @@ fn check_position(graph: &Graph, drive: &[u32], i: usize) -> Result<(), Refusal>
     if graph.node_count().0 <= drive[i] as usize {
         return Err(Refusal::Drive);
     }
-    if i == 0 {
-        return Ok(());
-    }
-    if graph.joined(drive[i - 1] as usize, drive[i]) {
+    if i == 0 || graph.joined(drive[i - 1] as usize, drive[i]) {
         return Ok(());
     }
     Err(Refusal::Drive)

@@ -24,8 +24,7 @@ impl Graph<'_> {
         requires { tail + 1 < length self.now.starts.now }
         ensures { RowOf self.now.starts.now tail result }
     {
-        let starts = self.starts;
-        starts[tail] as usize..starts[tail + 1] as usize
+        self.starts[tail] as usize..self.starts[tail + 1] as usize
     }
 
     // Whether an arc leads from u to v. The heads of one tail ascend, so its row is halved until v is

@@ -10,10 +10,7 @@ pub fn check_sizes(graph: &Graph, limits: Limits) -> Result<(), Refusal>
 {
     let starts = graph.starts.len();
     let heads = graph.heads.len();
-    if starts < 2 || 4097 < starts {
-        return Err(Refusal::Sizes);
-    }
-    if heads != graph.weights.len() || limits.arcs.0 < heads {
+    if starts < 2 || 4097 < starts || heads != graph.weights.len() || limits.arcs.0 < heads {
         return Err(Refusal::Sizes);
     }
     Ok(())
@@ -29,7 +26,7 @@ pub fn check_set_size(set: &[u8]) -> Result<(), Refusal>
     Ok(())
 }
 
-// Check 11, of one slice: the length that it has, and the length that is asked.
+// Check 11, of one slice: the length that it has, and the length that is asked. One needs no list.
 pub fn check_length(given: usize, asked: usize) -> Result<(), Refusal>
     ensures { Judged (length_fault given asked) result }
 {
@@ -43,10 +40,8 @@ pub fn check_length(given: usize, asked: usize) -> Result<(), Refusal>
 pub fn check_lengths(lengths: &[(usize, usize)]) -> Result<(), Refusal>
     ensures { Judged (lengths_fault lengths.now) result }
 {
-    for (given, asked) in lengths {
-        if given != asked {
-            return Err(Refusal::Lengths);
-        }
+    if lengths.iter().any(|(given, asked)| given != asked) {
+        return Err(Refusal::Lengths);
     }
     Ok(())
 }

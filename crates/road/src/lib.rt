@@ -28,16 +28,18 @@ pub use order::check_order;
 pub use sets::{check_in_set, check_nodes, check_set};
 pub use starts::check_starts;
 
-// A count of nodes.
-#[derive(Clone, Copy)]
+// A count of nodes. It and the count of arcs are structs of their own by document 01, so that neither
+// is taken for the other.
+#[derive(Clone, Copy, PartialEq, Eq, PartialOrd, Ord, Debug)]
 pub struct NodeCount(pub usize);
 
 // A count of arcs. It is never added to a count of nodes nor compared with one: `arcs_on_path`
 // converts.
-#[derive(Clone, Copy)]
+#[derive(Clone, Copy, PartialEq, Eq, PartialOrd, Ord, Debug)]
 pub struct ArcCount(pub usize);
 
-// A graph: n + 1 starts, m heads, m weights. Nothing is asked of them but by a check.
+// A graph: n + 1 starts, m heads, m weights. It may hold anything until it is checked; `row` asks for a
+// tail that has one, `joined` for a graph that passed.
 #[derive(Clone, Copy)]
 pub struct Graph<'a> {
     pub starts: &'a [u32],
@@ -63,17 +65,17 @@ pub struct Limits {
 // Why a call is refused. `number_of` in specs/ gives each its number.
 #[derive(Clone, Copy, PartialEq, Eq, Debug)]
 pub enum Refusal {
-    Sizes,
-    Starts,
-    Arcs,
-    K,
-    Order,
-    Set,
-    Overlay,
-    Node,
-    Outside,
-    Drive,
-    Lengths,
-    Room,
-    Line,
+    Sizes = 1,
+    Starts = 2,
+    Arcs = 3,
+    K = 4,
+    Order = 5,
+    Set = 6,
+    Overlay = 7,
+    Node = 8,
+    Outside = 9,
+    Drive = 10,
+    Lengths = 11,
+    Room = 12,
+    Line = 13,
 }

@@ -17,10 +17,7 @@ pub fn check_order(n: NodeCount, order: &[u32]) -> Result<(), Refusal>
     let mut seen = [false; 4096];
     for node in order {
         let v = *node as usize;
-        if n.0 <= v {
-            return Err(Refusal::Order);
-        }
-        if seen[v] {
+        if n.0 <= v || seen[v] {
             return Err(Refusal::Order);
         }
         seen[v] = true;

@@ -10,16 +10,8 @@ pub fn check_starts(graph: &Graph) -> Result<(), Refusal>
     ensures { Judged (starts_fault graph.now.starts.now graph.now.heads.now) result }
 {
     let starts = graph.starts;
-    let last = starts.len() - 1;
-    if starts[0] != 0 {
-        return Err(Refusal::Starts);
-    }
-    for u in 0..last {
-        if starts[u + 1] < starts[u] {
-            return Err(Refusal::Starts);
-        }
-    }
-    if starts[last] as usize != graph.heads.len() {
+    let last = starts[starts.len() - 1] as usize;
+    if starts[0] != 0 || !starts.is_sorted() || last != graph.heads.len() {
         return Err(Refusal::Starts);
     }
     Ok(())

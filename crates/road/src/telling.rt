@@ -10,21 +10,7 @@ impl From<Refusal> for u8 {
     ghost from_gives = { λ r number. number ≡ number_of r };
 
     fn from(r: Refusal) -> u8 {
-        match r {
-            Refusal::Sizes => 1,
-            Refusal::Starts => 2,
-            Refusal::Arcs => 3,
-            Refusal::K => 4,
-            Refusal::Order => 5,
-            Refusal::Set => 6,
-            Refusal::Overlay => 7,
-            Refusal::Node => 8,
-            Refusal::Outside => 9,
-            Refusal::Drive => 10,
-            Refusal::Lengths => 11,
-            Refusal::Room => 12,
-            Refusal::Line => 13,
-        }
+        r as u8
     }
 }
 
