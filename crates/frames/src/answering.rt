@@ -11,7 +11,7 @@ use crate::{Areas, Lent, Sizes};
 use drive::thin;
 use hexlines::Writer;
 use maps::find_distance;
-use readings::Line;
+use readings::{Line, MOST_DRIVE};
 use road::Refusal;
 
 // Asks the any-pair question.
@@ -33,7 +33,7 @@ fn answer_drive(map: &Lent, nodes: &[u32], out: &mut Writer) -> Result<(), Refus
     requires room { out.old.at + 133 ≤ length out.old.buf.now }
     ensures { Thinned (lists_of map.now) nodes.now result out.old out.new }
 {
-    let mut room = [0u32; 64];
+    let mut room = [0u32; MOST_DRIVE];
     let positions = &mut room[..nodes.len()];
     let count = thin(&map.graph, map.set, nodes, positions)?;
     out.kept(&positions[..count.0]);

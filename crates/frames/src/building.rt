@@ -8,8 +8,10 @@ ghost use Rattle.road.specs.Lent.{SameSlices};
 ghost use Rattle.road.specs.Roads.{nodes_of};
 ghost use Rattle.frames.specs.workings.Held.{BuildFits, Built, Laid, LayFits, map_lists};
 
+use crate::{MOST_STARTS, OVER_ROOM};
 use hexlines::Writer;
 use maps::{find_cover, find_overlay, write_arcs, write_points};
+use readings::MOST_NODES;
 use road::{ArcCount, Graph, GraphMut, NodeCount, Refusal};
 
 // Prints the map.
@@ -75,10 +77,10 @@ fn lay_in(
 pub fn build(
     graph: &Graph,
     k: NodeCount,
-    set: &mut [u8; 512],
-    over_starts: &mut [u32; 513],
-    over_heads: &mut [u32; 4096],
-    over_weights: &mut [u32; 4096],
+    set: &mut [u8; MOST_NODES],
+    over_starts: &mut [u32; MOST_STARTS],
+    over_heads: &mut [u32; OVER_ROOM],
+    over_weights: &mut [u32; OVER_ROOM],
     out: &mut Writer,
 ) -> Result<ArcCount, Refusal>
     requires { BuildFits graph.now.starts.now graph.now.heads.now out.old }

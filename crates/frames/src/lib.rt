@@ -7,8 +7,14 @@ mod lending;
 mod loading;
 mod steps;
 
+use readings::{MOST_ARCS, MOST_NODES};
 use road::{ArcCount, Graph, NodeCount};
 pub use steps::{first, take_end, take_line, take_unended};
+
+// How many starts there are at most, and arcs of an overlay.
+pub const MOST_STARTS: usize = MOST_NODES + 1;
+
+pub const OVER_ROOM: usize = 4096;
 
 // A graph that is being read: the head's numbers, and how many arcs are read.
 #[derive(Clone, Copy)]
@@ -52,15 +58,16 @@ pub(crate) struct Lent<'a> {
 }
 
 // What the program is lent, each at its limit: the arcs as they are read, their starts, the cover
-// and the overlay. What is read or built stands at the front of each.
+// and the overlay. What is read or built stands at the front of each. They are fixed arrays, for
+// nothing is taken from the heap.
 #[derive(Drop)]
 pub struct Areas {
-    pub tails: [u32; 2048],
-    pub heads: [u32; 2048],
-    pub weights: [u32; 2048],
-    pub starts: [u32; 513],
-    pub set: [u8; 512],
-    pub over_starts: [u32; 513],
-    pub over_heads: [u32; 4096],
-    pub over_weights: [u32; 4096],
+    pub tails: [u32; MOST_ARCS],
+    pub heads: [u32; MOST_ARCS],
+    pub weights: [u32; MOST_ARCS],
+    pub starts: [u32; MOST_STARTS],
+    pub set: [u8; MOST_NODES],
+    pub over_starts: [u32; MOST_STARTS],
+    pub over_heads: [u32; OVER_ROOM],
+    pub over_weights: [u32; OVER_ROOM],
 }

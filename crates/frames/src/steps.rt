@@ -2,6 +2,7 @@
 ghost use Rattle.std.specs.Prelude.{◌≡◌, true, ◌+◌, ◌≤◌, length, IfOk};
 ghost use Rattle.frames.specs.Held.{MapRoom, Within};
 ghost use Rattle.frames.specs.Stages.{Goes, Starts, TookEnd, TookLine, TookUnended, goes, stage_by};
+ghost use Rattle.frames.specs.Steps.{most_lines};
 ghost use Rattle.frames.specs.workings.Held.{Kept, Leaves, Next};
 ghost use Rattle.frames.specs.workings.Judging.{Halted, Takes};
 
@@ -9,8 +10,11 @@ use crate::answering::ask;
 use crate::loading::{take_arc, take_head};
 use crate::{Areas, Phase, State};
 use hexlines::Writer;
-use readings::read_line;
+use readings::{MOST_DRIVE, read_line};
 use road::Refusal;
+
+// The most lines that are taken.
+const MOST_LINES: usize = 65535;
 
 // The state before the first line.
 pub fn first() -> State
@@ -25,7 +29,7 @@ pub fn first() -> State
 // Prints a refusal, and the program stops.
 fn stop(r: Refusal, line: usize, out: &mut Writer) -> State
     requires room { out.old.at + 9 ≤ length out.old.buf.now }
-    requires line_bound { line ≤ 65535 }
+    requires line_bound { line ≤ most_lines }
     ensures { Halted r line result out.old out.new }
 {
     out.refusal(u8::from(r), line);
@@ -43,7 +47,7 @@ fn step(phase: Phase, bytes: &[u8], areas: &mut Areas, out: &mut Writer) -> Resu
     ensures leaves { Leaves (Takes (stage_by phase areas.old) bytes.now) (λ p. stage_by p areas.new) result out.old out.new }
     ensures kept { IfOk result (Kept (Next phase)) }
 {
-    let mut nodes = [0u32; 64];
+    let mut nodes = [0u32; MOST_DRIVE];
     let line = read_line(bytes, &mut nodes).ok_or(Refusal::Line)?;
     match phase {
         Phase::Begun => take_head(line, areas, out),
@@ -63,8 +67,8 @@ pub fn take_line(s: State, bytes: &[u8], areas: &mut Areas, out: &mut Writer) ->
     requires room { MapRoom out.old }
     ensures { TookLine s areas.old bytes.now result areas.new out.old out.new }
 {
-    if s.lines == 65535 {
-        return stop(Refusal::Line, 65535, out);
+    if s.lines == MOST_LINES {
+        return stop(Refusal::Line, MOST_LINES, out);
     }
     let lines = s.lines + 1;
     match step(s.phase, bytes, areas, out) {
@@ -79,7 +83,7 @@ pub fn take_unended(s: State, out: &mut Writer) -> State
     requires room { out.old.at + 9 ≤ length out.old.buf.now }
     ensures { TookUnended s result out.old out.new }
 {
-    stop(Refusal::Line, (s.lines + 1).min(65535), out)
+    stop(Refusal::Line, (s.lines + 1).min(MOST_LINES), out)
 }
 
 // Takes the end of the input. While lines are missing it comes early: none of them is beyond 65,535.
