@@ -9,6 +9,7 @@ pub fn pick(set: &[u8], drive: &[u32], positions: &mut [u32]) -> PositionCount
     requires { Fits set.now drive.now positions.old }
     ensures { Picking set.now drive.now positions.old (length drive.now) positions.new result.0 }
 {
+    // Counted by hand: it grows at the kept positions alone, and the next one is written there.
     let mut count = 0;
     for (i, node) in drive.iter().enumerate() {
         let kept = set[*node as usize] == 1;

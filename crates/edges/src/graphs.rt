@@ -15,7 +15,8 @@ pub enum Case {
     Fan,
 }
 
-// A graph of a case, and a byte for each node, 1 where it is blocked.
+// A graph of a case, and a byte for each node, 1 where it is blocked. The memory is fixed, so how
+// many of the arcs' places are in use stands beside them.
 #[derive(Drop)]
 pub struct Maze {
     starts: [u32; 4097],
@@ -60,7 +61,7 @@ fn diamonds(v: u32, j: u32) -> Option<(u32, u32)> {
     if j == 0 {
         return Some((v + 1, 0));
     }
-    arc_if(v % 2 == 0, v + 2, 1073741824 >> (v / 2))
+    arc_if(v % 2 == 0, v + 2, (1 << 30) >> (v / 2))
 }
 
 // From node 0 to each node v at 1,000 v, and from each other node to the next at 1. A search that
@@ -75,39 +76,42 @@ fn fan(v: u32, j: u32) -> Option<(u32, u32)>
     arc_if(v < 4095, v + 1, 1)
 }
 
-// How many arcs v may have.
-fn slots(case: Case, v: u32) -> u32
-    ensures { result < 4096 }
-{
-    match case {
-        Case::Grid | Case::GridColumn | Case::GridSource => 4,
-        Case::Diamonds => 2,
-        Case::Fan => if v == 0 { 4095 } else { 1 },
-        _ => 1,
+// A case is told by three matches: many cases share an arm of one and differ in the next.
+impl Case {
+    // How many arcs v may have.
+    fn slots(self, v: u32) -> u32
+        ensures { result < 4096 }
+    {
+        match self {
+            Case::Grid | Case::GridColumn | Case::GridSource => 4,
+            Case::Diamonds => 2,
+            Case::Fan => if v == 0 { 4095 } else { 1 },
+            _ => 1,
+        }
     }
-}
 
-// The j-th arc that v may have, heads ascending.
-fn arc_of(case: Case, v: u32, j: u32) -> Option<(u32, u32)>
-    requires v_bound { v < 4096 }
-    requires j_bound { j < 4096 }
-{
-    match case {
-        Case::Halves => arc_if(v < 4095 && v != 99, v + 1, 3),
-        Case::Grid | Case::GridColumn | Case::GridSource => grid(v, j),
-        Case::Diamonds => diamonds(v, j),
-        Case::Fan => fan(v, j),
-        _ => arc_if(v < 4095, v + 1, 3),
+    // The j-th arc that v may have, heads ascending.
+    fn arc(self, v: u32, j: u32) -> Option<(u32, u32)>
+        requires v_bound { v < 4096 }
+        requires j_bound { j < 4096 }
+    {
+        match self {
+            Case::Halves => arc_if(v < 4095 && v != 99, v + 1, 3),
+            Case::Grid | Case::GridColumn | Case::GridSource => grid(v, j),
+            Case::Diamonds => diamonds(v, j),
+            Case::Fan => fan(v, j),
+            _ => arc_if(v < 4095, v + 1, 3),
+        }
     }
-}
 
-// Whether v is blocked.
-fn shut(case: Case, v: u32) -> bool {
-    match case {
-        Case::LineCut => v == 10,
-        Case::GridColumn => v % 64 == 31,
-        Case::GridSource => v == 0,
-        _ => false,
+    // Whether v is blocked.
+    fn blocks(self, v: u32) -> bool {
+        match self {
+            Case::LineCut => v == 10,
+            Case::GridColumn => v % 64 == 31,
+            Case::GridSource => v == 0,
+            _ => false,
+        }
     }
 }
 
@@ -119,18 +123,18 @@ impl Maze {
         let mut blocked = [0; 4096];
         let mut arcs = 0;
         for v in 0..4096 {
-            for j in 0..slots(case, v) {
+            for j in 0..case.slots(v) {
                 if arcs == 16384 {
                     break;
                 }
-                if let Some((head, weight)) = arc_of(case, v, j) {
+                if let Some((head, weight)) = case.arc(v, j) {
                     heads[arcs] = head;
                     weights[arcs] = weight;
                     arcs += 1;
                 }
             }
             starts[v as usize + 1] = arcs as u32;
-            blocked[v as usize] = u8::from(shut(case, v));
+            blocked[v as usize] = u8::from(case.blocks(v));
         }
         Maze {
             starts,
