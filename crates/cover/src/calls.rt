@@ -2,15 +2,14 @@
 ghost use Rattle.std.specs.Prelude.{◌≡◌, ◌≤◌};
 ghost use Rattle.road.specs.Counting.{times};
 ghost use Rattle.road.specs.Faults.{lengths_fault};
-ghost use Rattle.road.specs.Lent.{SameSlices};
 ghost use Rattle.road.specs.workings.Verdicts.{Judged};
-ghost use Rattle.cover.specs.workings.Ready.{Built, Cleared, Emptied, Ready};
+ghost use Rattle.cover.specs.workings.Ready.{Built, Cleared, Ready};
 ghost use Rattle.cover.specs.Calls.{areas_of, Outcome, SameWork, asked_lengths, said_of};
 
 use crate::Work;
 use crate::pruning::prune;
 use pieces::Roads;
-use road::{ArcCount, Graph, GraphMut, NodeCount, Refusal, check_cover_input, check_lengths};
+use road::{ArcCount, Graph, NodeCount, Refusal, check_cover_input, check_lengths};
 use turning::turn;
 
 // How many of the bytes are 1.
@@ -36,25 +35,17 @@ fn check_areas(n: NodeCount, m: ArcCount, cover: &[u8], work: &Work) -> Result<(
     ])
 }
 
-// Fills the room with zeros.
-fn clear_room(back: &mut GraphMut)
-    ensures cleared { Emptied back.old back.new }
-    ensures same_slices { SameSlices back.old back.new }
-{
-    back.starts.fill(0);
-    back.heads.fill(0);
-    back.weights.fill(0);
-}
-
-// Fills the work with zeros.
-fn clear_work(work: &mut Work)
-    ensures cleared { Cleared work.old work.new }
-    ensures same_work { SameWork work.old work.new }
-{
-    clear_room(work.back);
-    work.marks.fill(0);
-    work.pieces.fill(0);
-    work.sizes.fill(0);
+impl Work<'_, '_> {
+    // Fills the work with zeros.
+    fn clear(&mut self)
+        ensures cleared { Cleared self.old self.new }
+        ensures same_work { SameWork self.old self.new }
+    {
+        self.back.clear();
+        self.marks.fill(0);
+        self.pieces.fill(0);
+        self.sizes.fill(0);
+    }
 }
 
 // Builds the cover, everything being checked.
@@ -73,7 +64,7 @@ fn build(graph: &Graph, k: NodeCount, order: &[u32], cover: &mut [u8], work: &mu
         k,
     };
     prune(&roads, order, cover, work.pieces, work.sizes);
-    clear_work(work);
+    work.clear();
     count_ones(cover)
 }
 

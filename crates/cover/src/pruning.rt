@@ -1,7 +1,7 @@
 // Pruning: the nodes are taken in the order lent, and each is dropped exactly if it is not needed.
 // Where the sizes of its neighbours' pieces tell that it is not, nothing is searched.
-// No answer depends on the weights. The bytes, the pieces and the sizes go as three slices: were
-// they in one struct, each contract would also have to say that its slices are the same.
+// The bytes, the pieces and the sizes go as three slices: were they in one struct, each contract
+// would also have to say that its slices are the same.
 ghost use Rattle.std.specs.Prelude.{◌≡◌, ◌≤◌, ◌<◌, length, set};
 ghost use Rattle.paths.specs.Lists.{Each};
 ghost use Rattle.road.specs.workings.Verdicts.{Tells};
@@ -79,7 +79,7 @@ fn drop_node(
     requires fits { Fits (road_of roads.now) roads.now.k.0 cover.old sizes.old v r.0 }
     requires v_in_bounds { v < length cover.old }
     ensures cover_value { cover.new ≡ set cover.old v 0 }
-    ensures kept_2 { Kept (road_of roads.now) roads.now.k.0 cover.new sizes.new pieces.new }
+    ensures still_kept { Kept (road_of roads.now) roads.now.k.0 cover.new sizes.new pieces.new }
 {
     let size = r.0 as u32;
     cover[v as usize] = 0;
@@ -94,7 +94,7 @@ fn take_node(roads: &Roads, cover: &mut [u8], pieces: &mut [u32], sizes: &mut [u
     requires kept { Kept (road_of roads.now) roads.now.k.0 cover.old sizes.old pieces.old }
     requires v_in_bounds { v < length cover.old }
     ensures took { Took (paths_of roads.now) v cover.old cover.new }
-    ensures kept_2 { Kept (road_of roads.now) roads.now.k.0 cover.new sizes.new pieces.new }
+    ensures still_kept { Kept (road_of roads.now) roads.now.k.0 cover.new sizes.new pieces.new }
 {
     let r = roads.size_for(cover, pieces, sizes, v);
     if stays(roads, cover, sizes, v, r) {

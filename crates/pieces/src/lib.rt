@@ -3,7 +3,9 @@
 
 mod sizes;
 
+ghost use Rattle.std.specs.Prelude.{◌≡◌, length};
 ghost use Rattle.road.specs.workings.Left.{OfK};
+ghost use Rattle.trails.specs.workings.Search.{Searchable};
 
 use road::{Graph, NodeCount};
 pub use sizes::spread;
@@ -17,4 +19,14 @@ pub struct Roads<'a> {
     pub back: Graph<'a>,
     pub k: NodeCount,
     pub ghost of_k: { OfK k.0 },
+}
+
+// The graph, or the same turned round, and a byte and a size for each of its nodes.
+#[derive(Clone, Copy)]
+struct Side<'a> {
+    graph: Graph<'a>,
+    cover: &'a [u8],
+    sizes: &'a [u32],
+    ghost searchable: { Searchable graph.starts.now graph.heads.now (length cover.now) },
+    ghost as_many: { length sizes.now ≡ length cover.now },
 }

@@ -7,72 +7,67 @@ ghost use Rattle.pieces.specs.workings.Pieces.{Below, Fits, Kept, Raised, Raises
 ghost use Rattle.trails.specs.workings.Search.{Searchable};
 ghost use Rattle.pieces.specs.workings.Steps.{Prunable, PrunableOver};
 
-use crate::Roads;
+use crate::{Roads, Side};
 use road::{Graph, NodeCount};
 
-// Of p and x the one whose size is larger, where x is dropped; otherwise p.
-fn above(cover: &[u8], sizes: &[u32], p: u32, x: u32) -> u32
-    requires sizes_len { length sizes.now ≡ length cover.now }
-    requires p_in_bounds { p < length cover.now }
-    requires x_in_bounds { x < length cover.now }
-    ensures { result < length cover.now }
-{
-    if cover[x as usize] == 0 && sizes[p as usize] < sizes[x as usize] {
-        return x;
+impl Side<'_> {
+    // Of p and x the one whose size is larger, where x is dropped; otherwise p.
+    fn above(&self, p: u32, x: u32) -> u32
+        requires p_in_bounds { p < length self.now.cover.now }
+        requires x_in_bounds { x < length self.now.cover.now }
+        ensures { result < length self.now.cover.now }
+    {
+        if self.cover[x as usize] == 0 && self.sizes[p as usize] < self.sizes[x as usize] {
+            return x;
+        }
+        p
     }
-    p
+
+    // The node of v's row with the largest size, or p. Which node it is no proof asks: the bound
+    // holds with any, and is smallest with this one.
+    fn top(&self, v: usize, p: u32) -> u32
+        requires v_in_bounds { v < length self.now.cover.now }
+        requires p_in_bounds { p < length self.now.cover.now }
+        ensures { result < length self.now.cover.now }
+    {
+        let row = self.graph.row(v);
+        let mut best = p;
+        for i in row.start..row.end {
+            best = self.above(best, self.graph.heads[i]);
+        }
+        best
+    }
+
+    // The size of a dropped node other than `but`, and 0 of any other.
+    fn size_of(&self, but: u32, x: u32) -> usize
+        requires x_in_bounds { x < length self.now.cover.now }
+        ensures { Below self.now.cover.now self.now.sizes.now but result x }
+    {
+        if self.cover[x as usize] != 0 || x == but {
+            return 0;
+        }
+        self.sizes[x as usize] as usize
+    }
+
+    // The largest size of a dropped node in v's row, `but` left out.
+    fn largest(&self, v: usize, but: u32) -> usize
+        requires v_in_bounds { v < length self.now.cover.now }
+        ensures { Row self.now.graph.starts.now self.now.graph.heads.now v (Below self.now.cover.now self.now.sizes.now but result) }
+    {
+        let row = self.graph.row(v);
+        let mut best = 0;
+        for i in row.start..row.end {
+            best = best.max(self.size_of(but, self.graph.heads[i]));
+        }
+        best
+    }
 }
 
-// The node of v's row with the largest size, or p. Which node it is no proof asks: the bound holds
-// with any, and is smallest with this one.
-fn top(graph: &Graph, cover: &[u8], sizes: &[u32], v: usize, p: u32) -> u32
-    requires searchable { Searchable graph.now.starts.now graph.now.heads.now (length cover.now) }
-    requires sizes_len { length sizes.now ≡ length cover.now }
-    requires v_in_bounds { v < length cover.now }
-    requires p_in_bounds { p < length cover.now }
-    ensures { result < length cover.now }
-{
-    let row = graph.row(v);
-    let heads = graph.heads;
-    let mut best = p;
-    for i in row.start..row.end {
-        best = above(cover, sizes, best, heads[i]);
-    }
-    best
-}
-
-// The size of a dropped node other than `but`, and 0 of any other.
-fn size_of(cover: &[u8], sizes: &[u32], but: u32, x: u32) -> usize
-    requires sizes_len { length sizes.now ≡ length cover.now }
-    requires x_in_bounds { x < length cover.now }
-    ensures { Below cover.now sizes.now but result x }
-{
-    if cover[x as usize] != 0 || x == but {
-        return 0;
-    }
-    sizes[x as usize] as usize
-}
-
-// The largest size of a dropped node in v's row, `but` left out.
-fn largest(graph: &Graph, cover: &[u8], sizes: &[u32], v: usize, but: u32) -> usize
-    requires searchable { Searchable graph.now.starts.now graph.now.heads.now (length cover.now) }
-    requires sizes_len { length sizes.now ≡ length cover.now }
-    requires v_in_bounds { v < length cover.now }
-    ensures { Row graph.now.starts.now graph.now.heads.now v (Below cover.now sizes.now but result) }
-{
-    let row = graph.row(v);
-    let heads = graph.heads;
-    let mut best = 0;
-    for i in row.start..row.end {
-        best = best.max(size_of(cover, sizes, but, heads[i]));
-    }
-    best
-}
-
-// Raises y's size to r where y is dropped and its size is smaller; then y waits.
+// Raises y's size to r where y is dropped and its size is smaller; then y waits. Those that wait
+// stand at the front of `pieces`, which is lent and does not grow, so their count goes beside it.
 fn raise(cover: &[u8], pieces: &mut [u32], sizes: &mut [u32], count: usize, r: u32, y: u32) -> usize
     requires sizes_len { length sizes.old ≡ length cover.now }
-    requires sizes_in_bounds { count + under r sizes.old ≤ length pieces.old }
+    requires room { count + under r sizes.old ≤ length pieces.old }
     requires y_in_bounds { y < length cover.now }
     ensures raises { Raises r sizes.old pieces.old count sizes.new pieces.new result }
     ensures raised { Raised cover.now sizes.new r y }
@@ -97,16 +92,15 @@ fn raise_row(
 ) -> usize
     requires searchable { Searchable graph.now.starts.now graph.now.heads.now (length cover.now) }
     requires sizes_len { length sizes.old ≡ length cover.now }
-    requires sizes_in_bounds { waiting + under r sizes.old ≤ length pieces.old }
+    requires room { waiting + under r sizes.old ≤ length pieces.old }
     requires x_in_bounds { x < length cover.now }
     ensures raises { Raises r sizes.old pieces.old waiting sizes.new pieces.new result }
     ensures row { Row graph.now.starts.now graph.now.heads.now x (Raised cover.now sizes.new r) }
 {
     let row = graph.row(x);
-    let heads = graph.heads;
     let mut count = waiting;
     for i in row.start..row.end {
-        count = raise(cover, pieces, sizes, count, r, heads[i]);
+        count = raise(cover, pieces, sizes, count, r, graph.heads[i]);
     }
     count
 }
@@ -122,10 +116,20 @@ impl<'a> Roads<'a> {
     {
         let at = v as usize;
         let k = self.k;
-        let ahead = top(&self.ahead, cover, sizes, at, v);
-        let p = top(&self.back, cover, sizes, at, ahead);
-        let out = largest(&self.ahead, cover, sizes, at, p);
-        let into = largest(&self.back, cover, sizes, at, p);
+        let ahead = Side {
+            graph: self.ahead,
+            cover,
+            sizes,
+        };
+        let back = Side {
+            graph: self.back,
+            cover,
+            sizes,
+        };
+        let best = ahead.top(at, v);
+        let p = back.top(at, best);
+        let out = ahead.largest(at, p);
+        let into = back.largest(at, p);
         let second = out.max(into);
         let first = second.max(sizes[p as usize] as usize);
         if k.0 <= first {

@@ -24,7 +24,8 @@ fn grown(cover: &[u8], t: Trail, v: u32) -> Option<Trail>
     t.push(v)
 }
 
-// At the outward end alone.
+// At the outward end alone. `longest` would tell this too, by whether it reaches all that are
+// missing; tried here, it took a cover some two in a hundred more instructions.
 fn outward(graph: &Graph, cover: &[u8], t: Trail, last: usize, missing: NodeCount) -> bool
     requires searchable { Searchable graph.now.starts.now graph.now.heads.now (length cover.now) }
     requires last_in_bounds { last < length cover.now }
@@ -35,10 +36,9 @@ fn outward(graph: &Graph, cover: &[u8], t: Trail, last: usize, missing: NodeCoun
         return true;
     }
     let row = graph.row(last);
-    let heads = graph.heads;
     let fewer = NodeCount(missing.0 - 1);
     for p in row.start..row.end {
-        let v = heads[p];
+        let v = graph.heads[p];
         if let Some(longer) = grown(cover, t, v) {
             if outward(graph, cover, longer, v as usize, fewer) {
                 return true;
@@ -59,11 +59,10 @@ pub fn longest(graph: &Graph, cover: &[u8], t: Trail, last: usize, most: NodeCou
         return NodeCount(0);
     }
     let row = graph.row(last);
-    let heads = graph.heads;
     let fewer = NodeCount(most.0 - 1);
     let mut best = 0;
     for p in row.start..row.end {
-        let v = heads[p];
+        let v = graph.heads[p];
         if let Some(longer) = grown(cover, t, v) {
             let found = longest(graph, cover, longer, v as usize, fewer);
             best = best.max(found.0 + 1);
@@ -90,7 +89,7 @@ pub fn inward(
     reach: NodeCount,
 ) -> bool
     requires searchable { Searchable graph.now.starts.now graph.now.heads.now (length cover.now) }
-    requires searchable_2 { Searchable back.now.starts.now back.now.heads.now (length cover.now) }
+    requires back_searchable { Searchable back.now.starts.now back.now.heads.now (length cover.now) }
     requires first_in_bounds { first < length cover.now }
     requires last_in_bounds { last < length cover.now }
     requires missing_bound { t.count.0 + missing.0 ≤ 32 }
@@ -101,10 +100,9 @@ pub fn inward(
         return true;
     }
     let row = back.row(first);
-    let heads = back.heads;
     let fewer = NodeCount(missing.0 - 1);
     for p in row.start..row.end {
-        let v = heads[p];
+        let v = back.heads[p];
         if let Some(longer) = grown(cover, t, v) {
             if inward(graph, back, cover, longer, v as usize, last, fewer, reach) {
                 return true;

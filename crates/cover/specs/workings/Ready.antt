@@ -9,7 +9,6 @@ use Rattle.rule.specs.Rule.{PathOf, Pruned}
 use Rattle.road.specs.workings.Left.{OfK}
 use Rattle.pieces.specs.declared.Roads.{Roads}
 use Rattle.pieces.specs.workings.Steps.{road_of}
-use Rattle.road.specs.declared.GraphMut.{GraphMut}
 use Rattle.cover.specs.declared.Work.{Work}
 use Rattle.cover.specs.Calls.{Areas, answered}
 
@@ -36,15 +35,11 @@ pub record Built (starts heads weights : List ℕ) (k : ℕ) (order : List ℕ) 
   pub count_right : count ≡ times 1 after.cover
   pub zeros : after ≡ answered (nodes_of starts) (length heads) after.cover
 
--- the room filled with zeros
-pub record Emptied (old new : GraphMut) : Type 0 where
-  pub starts : new.starts.now ≡ replicate (length old.starts.now) 0
-  pub heads : new.heads.now ≡ replicate (length old.heads.now) 0
-  pub weights : new.weights.now ≡ replicate (length old.weights.now) 0
-
 -- all of the work filled with zeros
 pub record Cleared (old new : Work) : Type 0 where
-  pub back : Emptied old.back.now new.back.now
+  pub starts : new.back.now.starts.now ≡ replicate (length old.back.now.starts.now) 0
+  pub heads : new.back.now.heads.now ≡ replicate (length old.back.now.heads.now) 0
+  pub weights : new.back.now.weights.now ≡ replicate (length old.back.now.weights.now) 0
   pub marks : new.marks.now ≡ replicate (length old.marks.now) 0
   pub pieces : new.pieces.now ≡ replicate (length old.pieces.now) 0
   pub sizes : new.sizes.now ≡ replicate (length old.sizes.now) 0

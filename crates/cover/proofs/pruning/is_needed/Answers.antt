@@ -9,8 +9,8 @@ pub returns-then-reach-most : goal.returns-then-reach-most
 returns-then-reach-most c = needed_told _ _ _ _ _ _ _ c.requires.prunable.sound c.requires.prunable.turned.round _ _ _ (omega (arith, c.requires.prunable.bytes, c.requires.v_in_bounds)) c.args.roads.now.of_k.some
     (tells_yes (ends (record { outward = rw (c.of-trail.ensures.0, c.if-reach-most.true) at c.longest-reach.ensures.reached })))
 
-pub inward-requires-clause-searchable_2 : goal.inward-requires-clause-searchable_2
-inward-requires-clause-searchable_2 c = search_back _ _ _ _ _ _ _ c.requires.prunable
+pub inward-requires-clause-back_searchable : goal.inward-requires-clause-back_searchable
+inward-requires-clause-back_searchable c = search_back _ _ _ _ _ _ _ c.requires.prunable
 
 pub returns : goal.returns
 returns c = needed_told _ _ _ _ _ _ _ c.requires.prunable.sound c.requires.prunable.turned.round _ _ _ (omega (arith, c.requires.prunable.bytes, c.requires.v_in_bounds)) c.args.roads.now.of_k.some

@@ -7,7 +7,7 @@ pub returns-then-cover-y-ne0-clause-raises : goal.returns-then-cover-y-ne0-claus
 returns-then-cover-y-ne0-clause-raises c = none
 
 pub bounds-pieces-count : goal.bounds-pieces-count
-bounds-pieces-count c = push_room c.args.sizes.now c.args.y (omega arith) (omega arith) _ _ c.requires.sizes_in_bounds
+bounds-pieces-count c = push_room c.args.sizes.now c.args.y (omega arith) (omega arith) _ _ c.requires.room
 
 pub returns-clause-raises : goal.returns-clause-raises
 returns-clause-raises c = raises_one c.args.sizes.now c.args.y (omega arith) (omega arith) _ _

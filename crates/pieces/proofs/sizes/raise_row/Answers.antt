@@ -6,8 +6,8 @@ use Rattle.pieces.proofs.sizes.raise_row.Goals as goal
 pub loop-i-init : goal.loop-i-init
 loop-i-init c = (none, row_none _ _ _ _ _ c.requires.searchable c.requires.x_in_bounds c.row-row.ensures.end _ _ c.row-row.ensures.start)
 
-pub raise-count-requires-clause-sizes_in_bounds : goal.raise-count-requires-clause-sizes_in_bounds
-raise-count-requires-clause-sizes_in_bounds c = room_after c.loop-i.invariant.0 c.requires.sizes_in_bounds
+pub raise-count-requires-clause-room : goal.raise-count-requires-clause-room
+raise-count-requires-clause-room c = room_after c.loop-i.invariant.0 c.requires.room
 
 pub loop-i-preserved : goal.loop-i-preserved
 loop-i-preserved c = (raises_then c.loop-i.invariant.0 c.raise-count.ensures.raises, row_more _ _ _ _ _ _ _ c.loop-i.invariant.1 c.loop-i-test.true (raised_still _ (raises_grown c.raise-count.ensures.raises)) c.raise-count.ensures.raised)

@@ -11,11 +11,11 @@ returns-then-most-eq0 t c = longest_none _ _ _ _ _ _ c.if-most-eq0.true
 pub loop-p-init : goal.loop-p-init
 loop-p-init t c = best_none _ _ _ _ _ _ _ _ c.row-row.ensures.start (omega (arith, c.requires.searchable.rising.rises c.args.last (row_bounds _ _ _ _ c.requires.searchable c.requires.last_in_bounds)))
 
-pub offset_bounds-heads-p : goal.offset_bounds-heads-p
-offset_bounds-heads-p t c = grind (arith, place_listed _ _ _ _ _ c.requires.searchable c.loop-p.invariant.from (omega arith))
+pub offset_bounds-graph-p : goal.offset_bounds-graph-p
+offset_bounds-graph-p t c = grind (arith, place_listed _ _ _ _ _ c.requires.searchable c.loop-p.invariant.from (omega arith))
 
-pub bounds-heads-p : goal.bounds-heads-p
-bounds-heads-p t c = place_listed _ _ _ _ _ c.requires.searchable c.loop-p.invariant.from (omega arith)
+pub bounds-graph-p : goal.bounds-graph-p
+bounds-graph-p t c = place_listed _ _ _ _ _ c.requires.searchable c.loop-p.invariant.from (omega arith)
 
 pub returns-then-most-best : goal.returns-then-most-best
 returns-then-most-best t c =

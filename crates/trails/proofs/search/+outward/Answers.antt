@@ -10,11 +10,11 @@ use Rattle.trails.proofs.search.+outward.Goals as goal
 pub returns-then-missing-eq0 : goal.returns-then-missing-eq0
 returns-then-missing-eq0 t c = tells_yes (ends (record { none = c.if-missing-eq0.true }))
 
-pub offset_bounds-heads-p : goal.offset_bounds-heads-p
-offset_bounds-heads-p t c = grind (arith, place_listed _ _ _ _ _ c.requires.searchable c.loop-p.invariant.0 (omega arith))
+pub offset_bounds-graph-p : goal.offset_bounds-graph-p
+offset_bounds-graph-p t c = grind (arith, place_listed _ _ _ _ _ c.requires.searchable c.loop-p.invariant.0 (omega arith))
 
-pub bounds-heads-p : goal.bounds-heads-p
-bounds-heads-p t c = place_listed _ _ _ _ _ c.requires.searchable c.loop-p.invariant.0 (omega arith)
+pub bounds-graph-p : goal.bounds-graph-p
+bounds-graph-p t c = place_listed _ _ _ _ _ c.requires.searchable c.loop-p.invariant.0 (omega arith)
 
 pub returns-then-outward : goal.returns-then-outward
 returns-then-outward t c = tells_yes

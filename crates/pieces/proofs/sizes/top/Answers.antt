@@ -1,5 +1,0 @@
-use Rattle.pieces.proofs.Rows.{row_none}
-use Rattle.pieces.proofs.sizes.top.Goals as goal
-
-pub loop-i-init : goal.loop-i-init
-loop-i-init c = (c.requires.p_in_bounds, row_none _ _ _ _ _ c.requires.searchable c.requires.v_in_bounds c.row-row.ensures.end _ _ c.row-row.ensures.start)
