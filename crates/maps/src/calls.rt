@@ -12,6 +12,16 @@ use distance::{PairWork, any_pair};
 use overlay::{Work as OverlayWork, overlay};
 use road::{ArcCount, Graph, GraphMut, NodeCount, Refusal};
 
+// The limits of the program, as `readings` keeps them.
+const MOST_NODES: usize = 512;
+
+const MOST_STARTS: usize = MOST_NODES + 1;
+
+const MOST_ARCS: usize = 2048;
+
+// The room of a search's heap.
+const HEAP_ROOM: usize = 2 * MOST_NODES;
+
 // The cover, the nodes being taken in ascending order.
 pub fn find_cover(graph: &Graph, k: NodeCount, set: &mut [u8]) -> Result<NodeCount, Refusal>
     requires { CoverFits graph.now.starts.now graph.now.heads.now set.old }
@@ -19,13 +29,13 @@ pub fn find_cover(graph: &Graph, k: NodeCount, set: &mut [u8]) -> Result<NodeCou
 {
     let n = graph.node_count().0;
     let m = graph.heads.len();
-    let mut order = [0u32; 512];
-    let mut starts = [0u32; 513];
-    let mut heads = [0u32; 2048];
-    let mut weights = [0u32; 2048];
-    let mut marks = [0u8; 512];
-    let mut pieces = [0u32; 512];
-    let mut sizes = [0u32; 512];
+    let mut order = [0u32; MOST_NODES];
+    let mut starts = [0u32; MOST_STARTS];
+    let mut heads = [0u32; MOST_ARCS];
+    let mut weights = [0u32; MOST_ARCS];
+    let mut marks = [0u8; MOST_NODES];
+    let mut pieces = [0u32; MOST_NODES];
+    let mut sizes = [0u32; MOST_NODES];
     count_up(&mut order);
     let mut back = GraphMut {
         starts: &mut starts[..n + 1],
@@ -48,10 +58,10 @@ pub fn find_overlay(graph: &Graph, set: &[u8], rooms: &mut GraphMut) -> Result<A
     ensures same_slices { SameSlices rooms.old rooms.new }
 {
     let n = graph.node_count().0;
-    let mut labels = [0u64; 512];
-    let mut heap = [0u32; 1024];
-    let mut places = [0u32; 512];
-    let mut touched = [0u32; 512];
+    let mut labels = [0u64; MOST_NODES];
+    let mut heap = [0u32; HEAP_ROOM];
+    let mut places = [0u32; MOST_NODES];
+    let mut touched = [0u32; MOST_NODES];
     let mut work = OverlayWork {
         labels: &mut labels[..n],
         heap: &mut heap[..2 * n],
@@ -74,16 +84,16 @@ pub fn find_distance(
 {
     let n = graph.node_count().0;
     let m = graph.heads.len();
-    let mut starts = [0u32; 513];
-    let mut heads = [0u32; 2048];
-    let mut weights = [0u32; 2048];
-    let mut outward = [0u64; 512];
-    let mut inward = [0u64; 512];
-    let mut labels = [0u64; 512];
-    let mut heap = [0u32; 1024];
-    let mut places = [0u32; 512];
-    let mut touched = [0u32; 512];
-    let mut blocked = [0u8; 512];
+    let mut starts = [0u32; MOST_STARTS];
+    let mut heads = [0u32; MOST_ARCS];
+    let mut weights = [0u32; MOST_ARCS];
+    let mut outward = [0u64; MOST_NODES];
+    let mut inward = [0u64; MOST_NODES];
+    let mut labels = [0u64; MOST_NODES];
+    let mut heap = [0u32; HEAP_ROOM];
+    let mut places = [0u32; MOST_NODES];
+    let mut touched = [0u32; MOST_NODES];
+    let mut blocked = [0u8; MOST_NODES];
     let mut work = PairWork {
         starts: &mut starts[..n + 1],
         heads: &mut heads[..m],
