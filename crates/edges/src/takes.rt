@@ -3,20 +3,20 @@
 ghost use Rattle.search.specs.workings.Rows.{Asks};
 
 use crate::graphs::{Case, Maze};
-use road::{Graph, check_graph, overlay_limits};
-use search::{Queue, begin, take_one};
+use road::{check_graph, overlay_limits};
+use search::{Ask, Queue};
 use std::io;
 
-// Searches from node 0, and counts the nodes taken, up to a hundred thousand.
-fn takes(graph: &Graph, blocked: &[u8], labels: &mut [u64], queue: &mut Queue) -> usize
-    requires { Asks graph.now.starts.now graph.now.heads.now graph.now.weights.now blocked.now 0 labels.old queue.old.heap.now queue.old.places.now }
+// Searches, and counts the nodes taken, up to a hundred thousand.
+fn takes(ask: &Ask, labels: &mut [u64], queue: &mut Queue) -> usize
+    requires { Asks ask.now.graph.starts.now ask.now.graph.heads.now ask.now.graph.weights.now ask.now.blocked.now ask.now.source labels.old queue.old.heap.now queue.old.places.now }
 {
-    begin(graph, blocked, 0, labels, queue);
+    ask.begin(labels, queue);
     for taken in 0..100000 {
         if queue.waiting == 0 {
             return taken;
         }
-        take_one(graph, blocked, 0, labels, queue);
+        ask.take_one(labels, queue);
     }
     100000
 }
@@ -34,7 +34,12 @@ fn line(rt: &impl Print, label: &str, case: Case) -> io::Result<()> {
         places: &mut [0; 4096],
         waiting: 0,
     };
-    let taken = takes(&graph, &maze.blocked, &mut labels, &mut queue);
+    let ask = Ask {
+        graph,
+        blocked: &maze.blocked,
+        source: 0,
+    };
+    let taken = takes(&ask, &mut labels, &mut queue);
     let labelled = labels.iter().filter(|reached| **reached != 0).count();
     println!(rt; "{label}: taken {taken} labelled {labelled}")
 }

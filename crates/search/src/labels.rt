@@ -7,8 +7,8 @@ ghost use Rattle.search.specs.workings.Lent.{GoingOf, HeapBy, HeapOf};
 ghost use Rattle.search.specs.workings.Rows.{Asks, Row};
 ghost use Rattle.search.specs.workings.States.{All, Leaves, Offered, Upto, mass};
 
-use crate::Queue;
 use crate::heap::sooner;
+use crate::{Ask, Queue};
 use road::Graph;
 
 // Offers the label x to v, which is taken where v has none or a larger one; then v waits.
@@ -30,70 +30,65 @@ fn offer(labels: &mut [u64], queue: &mut Queue, v: usize, x: u64)
     }
 }
 
-// Offers u's neighbours the labels that its arcs give.
-fn relax(
-    graph: &Graph,
-    blocked: &[u8],
-    source: usize,
-    u: usize,
-    labels: &mut [u64],
-    queue: &mut Queue,
-)
-    requires going { GoingOf graph.now blocked.now source labels.old queue.old (Upto u (get_or graph.now.starts.now u 0)) }
-    requires leaves { Leaves blocked.now source labels.old queue.old.places.now u }
-    requires u_bound { u < nodes_of graph.now.starts.now }
-    ensures still_going { GoingOf graph.now blocked.now source labels.new queue.new All }
-    ensures mass_grows_not { mass labels.new + queue.new.waiting ≤ mass labels.old + queue.old.waiting }
-    ensures slices { SameSlices queue.old queue.new }
-{
-    let heads = graph.heads;
-    let weights = graph.weights;
-    let base = labels[u];
-    let row = graph.row(u);
-    for p in row.start..row.end {
-        let x = base + u64::from(weights[p]);
-        offer(labels, queue, heads[p] as usize, x);
+impl Ask<'_> {
+    // Offers u's neighbours the labels that its arcs give.
+    fn relax(&self, u: usize, labels: &mut [u64], queue: &mut Queue)
+        requires going { GoingOf self.now.graph self.now.blocked.now self.now.source labels.old queue.old (Upto u (get_or self.now.graph.starts.now u 0)) }
+        requires leaves { Leaves self.now.blocked.now self.now.source labels.old queue.old.places.now u }
+        requires u_bound { u < nodes_of self.now.graph.starts.now }
+        ensures still_going { GoingOf self.now.graph self.now.blocked.now self.now.source labels.new queue.new All }
+        ensures mass_grows_not { mass labels.new + queue.new.waiting ≤ mass labels.old + queue.old.waiting }
+        ensures slices { SameSlices queue.old queue.new }
+    {
+        let heads = self.graph.heads;
+        let weights = self.graph.weights;
+        let base = labels[u];
+        let row = self.graph.row(u);
+        for p in row.start..row.end {
+            let x = base + u64::from(weights[p]);
+            offer(labels, queue, heads[p] as usize, x);
+        }
     }
-}
 
-// Takes a node that waits, and where it may be left offers its neighbours labels.
-pub fn take_one(graph: &Graph, blocked: &[u8], source: usize, labels: &mut [u64], queue: &mut Queue)
-    requires going { GoingOf graph.now blocked.now source labels.old queue.old All }
-    requires one_waits { 1 ≤ queue.old.waiting }
-    ensures still_going { GoingOf graph.now blocked.now source labels.new queue.new All }
-    ensures mass_falls { mass labels.new + queue.new.waiting < mass labels.old + queue.old.waiting }
-    ensures slices { SameSlices queue.old queue.new }
-{
-    let u = queue.take(labels);
-    if u == source || blocked[u] == 0 {
-        relax(graph, blocked, source, u, labels, queue);
+    // Takes a node that waits, and where it may be left offers its neighbours labels.
+    pub fn take_one(&self, labels: &mut [u64], queue: &mut Queue)
+        requires going { GoingOf self.now.graph self.now.blocked.now self.now.source labels.old queue.old All }
+        requires one_waits { 1 ≤ queue.old.waiting }
+        ensures still_going { GoingOf self.now.graph self.now.blocked.now self.now.source labels.new queue.new All }
+        ensures mass_falls { mass labels.new + queue.new.waiting < mass labels.old + queue.old.waiting }
+        ensures slices { SameSlices queue.old queue.new }
+    {
+        let u = queue.take(labels);
+        if u == self.source || self.blocked[u] == 0 {
+            self.relax(u, labels, queue);
+        }
     }
-}
 
-// Takes nodes until none waits.
-fn run(graph: &Graph, blocked: &[u8], source: usize, labels: &mut [u64], queue: &mut Queue)
-    requires going { GoingOf graph.now blocked.now source labels.old queue.old All }
-    ensures still_going { GoingOf graph.now blocked.now source labels.new queue.new All }
-    ensures none { queue.new.waiting ≡ 0 }
-    ensures slices { SameSlices queue.old queue.new }
-{
-    // A while: a node may wait again, so no range counts the takes.
-    while 0 < queue.waiting {
-        take_one(graph, blocked, source, labels, queue);
+    // Takes nodes until none waits.
+    fn run(&self, labels: &mut [u64], queue: &mut Queue)
+        requires going { GoingOf self.now.graph self.now.blocked.now self.now.source labels.old queue.old All }
+        ensures still_going { GoingOf self.now.graph self.now.blocked.now self.now.source labels.new queue.new All }
+        ensures none { queue.new.waiting ≡ 0 }
+        ensures slices { SameSlices queue.old queue.new }
+    {
+        // A while: a node may wait again, so no range counts the takes.
+        while 0 < queue.waiting {
+            self.take_one(labels, queue);
+        }
     }
-}
 
-// The search before its first take: the source alone has a label, and waits.
-pub fn begin(graph: &Graph, blocked: &[u8], source: usize, labels: &mut [u64], queue: &mut Queue)
-    requires { Asks graph.now.starts.now graph.now.heads.now graph.now.weights.now blocked.now source labels.old queue.old.heap.now queue.old.places.now }
-    ensures going { GoingOf graph.now blocked.now source labels.new queue.new All }
-    ensures waiting { queue.new.waiting ≡ 1 }
-    ensures slices { SameSlices queue.old queue.new }
-{
-    labels.fill(0);
-    labels[source] = 1;
-    queue.waiting = 0;
-    queue.add(labels, source);
+    // The search before its first take: the source alone has a label, and waits.
+    pub fn begin(&self, labels: &mut [u64], queue: &mut Queue)
+        requires { Asks self.now.graph.starts.now self.now.graph.heads.now self.now.graph.weights.now self.now.blocked.now self.now.source labels.old queue.old.heap.now queue.old.places.now }
+        ensures going { GoingOf self.now.graph self.now.blocked.now self.now.source labels.new queue.new All }
+        ensures waiting { queue.new.waiting ≡ 1 }
+        ensures slices { SameSlices queue.old queue.new }
+    {
+        labels.fill(0);
+        labels[self.source] = 1;
+        queue.waiting = 0;
+        queue.add(labels, self.source);
+    }
 }
 
 // For every node the least weight over paths from the source with no blocked node strictly inside,
@@ -112,6 +107,11 @@ pub fn search(graph: &Graph, blocked: &[u8], source: usize, labels: &mut [u64], 
         places: &mut *queue.places,
         waiting: 0,
     };
-    begin(graph, blocked, source, labels, &mut own);
-    run(graph, blocked, source, labels, &mut own);
+    let ask = Ask {
+        graph: *graph,
+        blocked,
+        source,
+    };
+    ask.begin(labels, &mut own);
+    ask.run(labels, &mut own);
 }

@@ -1,11 +1,11 @@
 use Rattle.search.proofs.States.{Running}
 use Rattle.search.specs.workings.States.{mass}
 use Prim.Native.Nat.{◌+◌}
-use Rattle.search.proofs.labels.run.Given as goal
+use Rattle.search.proofs.Ask.run.Given as goal
 
 abbrev pub invariant-loop-queue : goal.invariant-loop-queue
 invariant-loop-queue l =
-    Running l.graph.starts.now l.graph.heads.now l.graph.weights.now l.blocked l.source l.initial.labels l.initial.queue l.labels l.queue
+    Running l.self.graph.starts.now l.self.graph.heads.now l.self.graph.weights.now l.self.blocked.now l.self.source l.initial.labels l.initial.queue l.labels l.queue
 
 abbrev pub decreases-loop-queue : goal.decreases-loop-queue
 decreases-loop-queue l = mass l.labels + l.queue.waiting

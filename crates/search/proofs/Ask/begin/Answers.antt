@@ -2,13 +2,13 @@ use lib.ListN.{length-set}
 use native.Mathlib.Omega.{arith}
 use Rattle.std.proofs.Common.{rules}
 use Rattle.search.proofs.States.{queue_empty, places_long, going_first}
-use Rattle.search.proofs.labels.begin.Goals as goal
+use Rattle.search.proofs.Ask.begin.Goals as goal
 
 pub add-requires-clause-heap : goal.add-requires-clause-heap
 add-requires-clause-heap c =
     record {
       is_heap = queue_empty _ _ _ _ _ _ _ _ c.requires;
-      labelled = omega (arith, length-set c.fill.new.self c.args.source 1, c.fill.ensures.len, c.requires.room, places_long _ _ _ _ _ _ _ _ c.requires);
+      labelled = omega (arith, length-set c.fill.new.self c.args.self.now.source 1, c.fill.ensures.len, c.requires.room, places_long _ _ _ _ _ _ _ _ c.requires);
     }
 
 pub returns-clause-going : goal.returns-clause-going

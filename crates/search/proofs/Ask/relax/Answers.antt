@@ -1,6 +1,6 @@
 use native.Mathlib.Omega.{arith}
 use Rattle.search.proofs.States.{relax_more, relax_end, row_listed, row_near, row_weighed}
-use Rattle.search.proofs.labels.relax.Goals as goal
+use Rattle.search.proofs.Ask.relax.Goals as goal
 
 pub offset_bounds-weights-p : goal.offset_bounds-weights-p
 offset_bounds-weights-p c = omega (arith, row_near _ _ _ _ _ _ _ _ _ _ _ _ _ c.loop-p.invariant c.loop-p-test.true)
