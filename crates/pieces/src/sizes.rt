@@ -105,7 +105,7 @@ fn raise_row(
     count
 }
 
-impl<'a> Roads<'a> {
+impl Roads<'_> {
     // A size for v, if it is dropped: a path through v comes in by one neighbour and leaves by
     // another, so the two largest sizes and one more bound it. From k on a size says nothing.
     pub fn size_for(&self, cover: &[u8], pieces: &[u32], sizes: &[u32], v: u32) -> NodeCount
