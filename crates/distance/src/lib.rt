@@ -10,7 +10,7 @@ mod through;
 
 pub use calls::{any_pair, handheld};
 
-// The work that the handheld question is lent.
+// The work that the handheld question is lent, as C lends it.
 #[derive(Drop)]
 pub struct HandWork<'a> {
     pub labels: &'a mut [u64],
@@ -38,7 +38,8 @@ pub struct PairWork<'a> {
     pub blocked: &'a mut [u8],
 }
 
-// What ways through the overlay are made of: the set, the row of labels from s and the row into t.
+// What ways through the overlay are made of: the set, the row of labels from s and the row into t,
+// bytes and numbers as C lends them.
 #[derive(Clone, Copy)]
 struct Ways<'a> {
     set: &'a [u8],

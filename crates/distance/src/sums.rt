@@ -20,7 +20,8 @@ pub fn lesser(x: Option<u64>, y: Option<u64>) -> Option<u64>
     }
 }
 
-// The sum of three distances; where one is missing there is none.
+// The sum of three distances; where one is missing there is none. A let .. else for each is the
+// project's form.
 pub fn sum(x: Option<u64>, y: Option<u64>, z: Option<u64>) -> Option<u64>
     requires modest { Modest (label_of x) }
     requires modest_2 { Modest (label_of y) }

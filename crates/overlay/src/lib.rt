@@ -12,7 +12,8 @@ ghost use Rattle.std.specs.Prelude.{◌≡◌, length};
 pub use calls::overlay;
 pub use checking::check_overlay;
 
-// The work that the overlay call is lent: labels, the queue's two slices, and touched.
+// The work that the overlay call is lent: labels, the queue's two slices, and touched, as C lends
+// them.
 #[derive(Drop)]
 pub struct Work<'a> {
     pub labels: &'a mut [u64],
@@ -21,7 +22,8 @@ pub struct Work<'a> {
     pub touched: &'a mut [u32],
 }
 
-// One tail's row, once the search from the tail has labelled the nodes that it reaches.
+// One tail's row, once the search from the tail has labelled the nodes that it reaches. The set is
+// bytes, and the labels numbers, since C lends them so.
 #[derive(Clone, Copy)]
 struct Row<'a> {
     set: &'a [u8],
