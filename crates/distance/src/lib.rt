@@ -23,7 +23,8 @@ pub struct HandWork<'a> {
 // The work that the any-pair question is lent: room for the graph turned round, the rows from s and
 // into t, and what the handheld question works in.
 // All slices: tried with a graph and a hand's work within, and the proof didn't close, since of a
-// struct within this one a caller does not learn what its slices hold.
+// struct within this one a caller does not learn what its slices hold. Tried with a `&mut` to each:
+// here it proves, but the borrow checker does not cover the any-pair call of gulvane then.
 #[derive(Drop)]
 pub struct PairWork<'a> {
     pub starts: &'a mut [u32],
