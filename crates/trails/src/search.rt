@@ -77,7 +77,8 @@ pub fn longest(graph: &Graph, cover: &[u8], t: Trail, last: usize, most: NodeCou
 // At the inward end, over the graph turned round, and where that leads no further at the outward
 // end. There no more than `reach` nodes can come onto the path, so that end need not be tried
 // where more are missing.
-// Eight parameters: a struct of those that stay through its calls would be made by one caller alone.
+// Eight parameters: half of them change from call to call, so a struct of the others, each read in
+// one line, would be no plainer.
 pub fn inward(
     graph: &Graph,
     back: &Graph,
