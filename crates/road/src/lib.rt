@@ -39,7 +39,8 @@ pub struct NodeCount(pub usize);
 pub struct ArcCount(pub usize);
 
 // A graph: n + 1 starts, m heads, m weights. It may hold anything until it is checked; `row` asks for a
-// tail that has one, `joined` for a graph that passed.
+// tail that has one, `joined` for a graph that passed. No model: tried, and a proof then has two names
+// for one list.
 #[derive(Clone, Copy)]
 pub struct Graph<'a> {
     pub starts: &'a [u32],

@@ -9,8 +9,13 @@ use crate::{NodeCount, Refusal};
 pub fn check_set(n: NodeCount, set: &[u8]) -> Result<(), Refusal>
     ensures { Judged (set_fault n.0 set.now) result }
 {
-    if set.len() != n.0 || set.iter().any(|byte| 1 < *byte) {
+    if set.len() != n.0 {
         return Err(Refusal::Set);
+    }
+    for byte in set {
+        if 1 < *byte {
+            return Err(Refusal::Set);
+        }
     }
     Ok(())
 }
