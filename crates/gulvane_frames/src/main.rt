@@ -12,7 +12,8 @@ use hexlines::Writer;
 use std::io;
 use std::io::Read;
 
-// What is read of the input: the bytes from `used` up to `filled` are still to be cut.
+// What is read of the input: the bytes from `used` up to `filled` are still to be cut. Fixed arrays here and
+// below, nothing from the heap.
 #[derive(Drop)]
 pub struct Chunk {
     pub bytes: [u8; 65536],
