@@ -52,7 +52,7 @@ pub fn check_hand_lengths(n: NodeCount, work: &HandWork) -> Result<(), Refusal>
 }
 
 // Check 11 of the any-pair question, over n nodes and m arcs: the graph turned round and the rows,
-// then what the handheld question is lent too.
+// then what the handheld question is lent too, once more: `PairWork` has no `HandWork` to lend.
 pub fn check_pair_lengths(n: NodeCount, m: ArcCount, work: &PairWork) -> Result<(), Refusal>
     requires { n.0 ≤ 4096 }
     ensures { Judged (lengths_fault (pair_lengths n.0 m.0 (pair_areas_of work.now))) result }

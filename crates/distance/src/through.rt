@@ -11,6 +11,9 @@ use crate::sums::{gate, lesser, shown, sum};
 use crate::{HandWork, Ways};
 use road::Graph;
 
+// RowsOf and SearchableIn stand as clauses: they bind the rows and the work to the overlay's nodes,
+// which neither struct has.
+
 // From s over an entry at the distance `first`, through the overlay, whose row of that entry is
 // given, and out at b.
 fn through_exit(ways: &Ways, labels: &[u64], first: u64, b: usize) -> Option<u64>

@@ -2,13 +2,24 @@
 use overlay::{Work, overlay};
 use printing::tell;
 use road::{ArcCount, Graph, GraphMut, NodeCount, Refusal, check_graph, check_k, road_limits};
+use std::fmt::Display;
 use std::io;
+
+// A line that says what is answered, after what it is.
+fn say<T: Display + Drop>(
+    rt: &impl Print,
+    label: &str,
+    what: &str,
+    answer: Result<T, Refusal>,
+) -> io::Result<()> {
+    print!(rt; "{label}:")?;
+    tell(rt, what, answer)?;
+    println!(rt)
+}
 
 // A line that says what a check finds.
 pub fn check(rt: &impl Print, label: &str, found: Result<(), Refusal>) -> io::Result<()> {
-    print!(rt; "{label}:")?;
-    tell(rt, "", found.map(|()| "passed"))?;
-    println!(rt)
+    say(rt, label, "", found.map(|()| "passed"))
 }
 
 // Two nodes, and an arc of this weight.
@@ -62,9 +73,7 @@ fn line(heads: &mut [u32], weights: &mut [u32]) -> Result<ArcCount, Refusal> {
 }
 
 fn room(rt: &impl Print, label: &str, said: Result<ArcCount, Refusal>) -> io::Result<()> {
-    print!(rt; "{label}:")?;
-    tell(rt, "arcs ", said.map(|arcs| arcs.0))?;
-    println!(rt)
+    say(rt, label, "arcs ", said.map(|arcs| arcs.0))
 }
 
 pub fn rooms(rt: &impl Print) -> io::Result<()> {

@@ -33,6 +33,7 @@ fn answer_drive(map: &Lent, nodes: &[u32], out: &mut Writer) -> Result<(), Refus
     requires room { out.old.at + 133 ≤ length out.old.buf.now }
     ensures { Thinned (lists_of map.now) nodes.now result out.old out.new }
 {
+    // Fixed memory, as the nodes have.
     let mut room = [0u32; MOST_DRIVE];
     let positions = &mut room[..nodes.len()];
     let count = thin(&map.graph, map.set, nodes, positions)?;

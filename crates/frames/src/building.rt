@@ -49,8 +49,9 @@ fn lay(
     Ok(arcs)
 }
 
-// The same, the room being three slices. A function of its own: what a part of an array holds at the
-// end is not known where the part goes straight into the struct.
+// The same, the room being three slices. A function of its own: tried within `build`, and the proof
+// didn't close, since what a part of an array holds at the end is not known where the part goes
+// straight into the struct.
 fn lay_in(
     points: NodeCount,
     graph: &Graph,

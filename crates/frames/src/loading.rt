@@ -1,4 +1,5 @@
-// The head and the arcs as they are read, and the graph once it is complete.
+// The head and the arcs as they are read, and the graph once it is complete. MapRoom stands as a
+// clause: it is a fact of the writer, which knows no map.
 ghost use Rattle.std.specs.Prelude.{◌≡◌, List, ℕ, ◌+◌, ◌≤◌, IfOk, ⊤};
 ghost use Rattle.frames.specs.Held.{LoadFits, MapRoom};
 ghost use Rattle.frames.specs.workings.Held.{Kept, Leaves, Limited, builds_in, loads_in};

@@ -47,6 +47,7 @@ fn step(phase: Phase, bytes: &[u8], areas: &mut Areas, out: &mut Writer) -> Resu
     ensures leaves { Leaves (Takes (stage_by phase areas.old) bytes.now) (λ p. stage_by p areas.new) result out.old out.new }
     ensures kept { IfOk result (Kept (Next phase)) }
 {
+    // Fixed memory: no drive of a frame has more nodes.
     let mut nodes = [0u32; MOST_DRIVE];
     let line = read_line(bytes, &mut nodes).ok_or(Refusal::Line)?;
     match phase {
@@ -61,7 +62,8 @@ fn step(phase: Phase, bytes: &[u8], areas: &mut Areas, out: &mut Writer) -> Resu
     }
 }
 
-// Takes the next line, without its line feed.
+// Takes the next line, without its line feed. Goes stands as a clause: a state that has stopped is a
+// state too.
 pub fn take_line(s: State, bytes: &[u8], areas: &mut Areas, out: &mut Writer) -> State
     requires goes { Goes s }
     requires room { MapRoom out.old }

@@ -28,14 +28,17 @@ pub struct Kept {
     pub len: usize,
 }
 
-// Adds bytes to those that are kept, as far as there is room, and says how many are kept then.
-fn keep(line: &mut [u8; 261], kept: usize, bytes: &[u8]) -> usize
-    requires { kept ≤ 261 }
-    ensures { result ≤ 261 }
-{
-    let more = bytes.len().min(261 - kept);
-    line[kept..kept + more].copy_from_slice(&bytes[..more]);
-    kept + more
+impl Kept {
+    // Adds bytes, as far as there is room.
+    fn add(&mut self, bytes: &[u8])
+        requires { Fits self.old }
+        ensures { Fits self.new }
+    {
+        let len = self.len;
+        let more = bytes.len().min(261 - len);
+        self.bytes[len..len + more].copy_from_slice(&bytes[..more]);
+        self.len = len + more;
+    }
 }
 
 // Moves bytes from the chunk to the line, up to a line feed, and says whether one ended them. No
@@ -51,12 +54,12 @@ fn cut(chunk: &mut Chunk, line: &mut Kept) -> bool
     let rest = &chunk.bytes[used..filled];
     match rest.iter().position(|b| *b == b'\n') {
         Some(end) => {
-            line.len = keep(&mut line.bytes, line.len, &rest[..end]);
+            line.add(&rest[..end]);
             chunk.used = used + end + 1;
             true
         }
         None => {
-            line.len = keep(&mut line.bytes, line.len, rest);
+            line.add(rest);
             chunk.used = filled;
             false
         }
@@ -160,6 +163,7 @@ fn main(rt: HostRuntime) -> io::Result<()> {
     let mut buf = [0; 131072];
     let mut out = Writer::new(&mut buf, 0);
     let mut s = first();
+    // Counted, since a program is proved to end: no input takes so many turns.
     for _ in 0..u64::MAX {
         if let Phase::Stopped = s.phase {
             return flush(&rt, &mut out);

@@ -1,4 +1,6 @@
-// How many arcs the overlay has. Nothing is written but the search's work.
+// How many arcs the overlay has. Nothing is written but the search's work. SearchingOf stands as a
+// clause, as in writing: a struct of the labels and the queue would have to say as well that its
+// slices stay the same.
 ghost use Rattle.std.specs.Prelude.{◌≡◌, ◌+◌, ◌<◌};
 ghost use Rattle.road.specs.Lent.{road_of};
 ghost use Rattle.road.specs.Roads.{nodes_of};

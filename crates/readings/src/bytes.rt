@@ -101,6 +101,7 @@ fn read_frame(bytes: &[u8], nodes: &mut [u32]) -> Option<Line>
 pub fn read_line(line: &[u8], nodes: &mut [u32]) -> Option<Line>
     ensures { Reads line.now result nodes.old nodes.new }
 {
+    // Fixed memory: no frame has more bytes.
     let mut room = [0; MOST_BYTES];
     let bytes = read_text(line, &mut room)?;
     read_frame(bytes, nodes)

@@ -48,7 +48,7 @@ pub struct Graph<'a> {
     pub weights: &'a [u32],
 }
 
-// A graph that is lent to be written.
+// A graph that is lent to be written. No model either.
 #[derive(Drop)]
 pub struct GraphMut<'a> {
     pub starts: &'a mut [u32],

@@ -5,13 +5,14 @@ ghost use Rattle.road.specs.workings.Verdicts.{Judged};
 
 use crate::{NodeCount, Refusal};
 
-// Check 6.
+// Check 6. A set is bytes, as C lends it.
 pub fn check_set(n: NodeCount, set: &[u8]) -> Result<(), Refusal>
     ensures { Judged (set_fault n.0 set.now) result }
 {
     if set.len() != n.0 {
         return Err(Refusal::Set);
     }
+    // A loop and not `any`: see check 2.
     for byte in set {
         if 1 < *byte {
             return Err(Refusal::Set);

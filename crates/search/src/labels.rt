@@ -30,6 +30,8 @@ fn offer(labels: &mut [u64], queue: &mut Queue, v: usize, x: u64)
     }
 }
 
+// GoingOf stands as a clause: a struct of the labels and the queue would have to say as well that its
+// three slices stay the same.
 impl Ask<'_> {
     // Offers u's neighbours the labels that its arcs give.
     fn relax(&self, u: usize, labels: &mut [u64], queue: &mut Queue)

@@ -1,6 +1,8 @@
 // Whether the path under trial can be completed by dropped nodes: at its inward end over the graph
 // turned round, and then at its outward end. Each call of itself has one node fewer missing. A path
 // that is full goes no further: with k of at most 32 that is never met.
+// Searchable stands as a clause: it binds two graphs to one cover, so a struct of a graph and the
+// cover would hold it for one of them alone.
 ghost use Rattle.std.specs.Prelude.{◌+◌, ◌≤◌, ◌<◌, length};
 ghost use Rattle.road.specs.workings.Verdicts.{Tells};
 ghost use Rattle.trails.specs.workings.Search.{Grows, Inward, Longest, Outward, Searchable, Within};
