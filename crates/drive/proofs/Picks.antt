@@ -1,6 +1,7 @@
 -- The pass over the drive, position by position.
 use mathlib.Core.Path.{◌≡◌, refl, sym, ap, subst, subst₂, ◌∙◌}
-use mathlib.Core.Logic.{◌⊎◌, inl, inr, ⊎_elim}
+use mathlib.Core.Bool.{true, false}
+use mathlib.Core.Logic.{◌⊎◌, inl, inr, ⊎_elim, ◌≢◌}
 use mathlib.Core.List.{List, [], ◌∷◌, ◌++◌}
 use Prim.Native.Nat.{ℕ, suc, ◌+◌, ◌≤◌, ◌<◌}
 use native.Mathlib.Decide.{ℕ_discrete}
@@ -10,6 +11,8 @@ use lib.ListN.{length, get_or, set, drop, length-set, length-append}
 use lib.Seq.{append_snoc, drop-cons, set_at}
 use Rattle.paths.specs.Lists.{Mem, Each}
 use Rattle.paths.proofs.Lists.{each_mem, mem_cases, mem_left, mem_right, mem_each}
+use Rattle.road.specs.workings.Verdicts.{Tells}
+use Rattle.road.proofs.Refusals.{tells_yes, tells_no}
 use Rattle.drive.specs.Thinning.{Ascending, ListOf, Kept, ThinnedDrive}
 use Rattle.drive.specs.workings.Picking.{KeptBefore, Fits, Picking}
 
@@ -25,6 +28,14 @@ ascending_more (y ∷ l) x a e = (
       (λ z h. ⊎_elim (λ m. each_mem (λ (w : ℕ). y < w) z l a.0 m) (⊎_elim (λ q. omega (arith, e.0)) absurd) (mem_cases z l (x ∷ []) h)),
   ascending_more l x a.1 e.1,
 )
+
+-- what the byte of a position's node tells
+module _ (bytes drive : List ℕ) (i v : ℕ) (e : v ≡ get_or drive i 0) where
+  pub tells_kept : i < length drive → get_or bytes v 0 ≡ 1 → Tells true (Kept bytes drive i)
+  tells_kept h b = tells_yes (record { position = h; in_set = ap (λ (x : ℕ). get_or bytes x 0) (sym e) ∙ b })
+
+  pub tells_not_kept : get_or bytes v 0 ≢ 1 → Tells false (Kept bytes drive i)
+  tells_not_kept n = tells_no (λ k. n (ap (λ (x : ℕ). get_or bytes x 0) e ∙ k.in_set))
 
 module _ (bytes drive positions : List ℕ) where
   pub picking_none : Picking bytes drive positions 0 positions 0

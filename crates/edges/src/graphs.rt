@@ -19,10 +19,10 @@ pub enum Case {
 // many of the arcs' places are in use stands beside them.
 #[derive(Drop)]
 pub struct Maze {
-    starts: [u32; 4097],
-    heads: [u32; 16384],
-    weights: [u32; 16384],
-    arcs: usize,
+    pub starts: [u32; 4097],
+    pub heads: [u32; 16384],
+    pub weights: [u32; 16384],
+    pub arcs: usize,
     pub blocked: [u8; 4096],
     ghost room: { arcs ≤ 16384 },
 }
@@ -116,11 +116,10 @@ impl Case {
 }
 
 impl Maze {
-    pub fn new(case: Case) -> Maze {
-        let mut starts = [0; 4097];
-        let mut heads = [0; 16384];
-        let mut weights = [0; 16384];
-        let mut blocked = [0; 4096];
+    // Writes the graph of a case and its blocked nodes, over what stood there. In place: given back
+    // by value a maze would be copied.
+    pub fn fill(&mut self, case: Case) {
+        self.starts[0] = 0;
         let mut arcs = 0;
         for v in 0..4096 {
             for j in 0..case.slots(v) {
@@ -128,21 +127,15 @@ impl Maze {
                     break;
                 }
                 if let Some((head, weight)) = case.arc(v, j) {
-                    heads[arcs] = head;
-                    weights[arcs] = weight;
+                    self.heads[arcs] = head;
+                    self.weights[arcs] = weight;
                     arcs += 1;
                 }
             }
-            starts[v as usize + 1] = arcs as u32;
-            blocked[v as usize] = u8::from(case.blocks(v));
+            self.starts[v as usize + 1] = arcs as u32;
+            self.blocked[v as usize] = u8::from(case.blocks(v));
         }
-        Maze {
-            starts,
-            heads,
-            weights,
-            arcs,
-            blocked,
-        }
+        self.arcs = arcs;
     }
 
     // The graph without the room that it leaves.

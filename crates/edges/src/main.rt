@@ -19,7 +19,5 @@ fn main(rt: HostRuntime) -> io::Result<()> {
     numbers::refusals(&rt)?;
     numbers::counts(&rt)?;
     numbers::overlays(&rt)?;
-    takes::lines(&rt)?;
-    takes::grids(&rt)?;
-    takes::others(&rt)
+    takes::lines(&rt)
 }

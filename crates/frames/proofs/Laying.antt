@@ -133,7 +133,7 @@ module _ (starts heads weights chosen b₁ b₂ b₃ : List ℕ) (full : length 
   pub laid_refused :
       (points : ℕ) (a₁ a₂ a₃ : List ℕ) (r : Refusal) (w : Writer) → Found (refusal r) a₁ a₂ a₃ → Laid points (map_with a₁ a₂ a₃) (Err r) w w
   laid_refused points a₁ a₂ a₃ r w f =
-      record { each = λ k n p q. record { does = over_refused (refusal r) a₁ a₂ a₃ r refl f k n p; same = refl } }
+      record { does = λ ℓ k n p q. over_refused (refusal r) a₁ a₂ a₃ r refl f k n p ℓ; same = refl }
 
   module _ (c : ArcCount) (a₁ a₂ a₃ : List ℕ) (f : Found (answer (c.0 ∷ [])) a₁ a₂ a₃) where
     made : Over c.0 a₁ a₂ a₃
@@ -212,29 +212,25 @@ module _ (starts heads weights chosen b₁ b₂ b₃ : List ℕ) (full : length 
     laid_built points w w' l₁ l₂ l₃ e₁ e₂ e₃ t =
         let m = made in
         record {
-          each =
-              λ k n p q.
-              record {
-                outs = counts points (length (take c.0 a₂)) ∷ point_lines 0 chosen ++ arc_lines a₁ (take c.0 a₂) (take c.0 a₃) (nodes_of starts);
-                does =
-                    λ ℓ.
-                    subst
-                    (λ (x : ℕ).
-                    Builds ℓ starts heads weights k (asking (map_over (map_with a₁ a₂ a₃) c))
-                    (counts x (length (take c.0 a₂)) ∷ point_lines 0 chosen ++ arc_lines a₁ (take c.0 a₂) (take c.0 a₃) (nodes_of starts)))
-                    (sym q)
-                    (built n p m.sound m.fits
-                    (subst (λ (x : List ℕ). OverlayOf (road starts heads weights) chosen a₁ x (take c.0 a₃)) (sym front_heads)
-                    (subst (λ (x : List ℕ). OverlayOf (road starts heads weights) chosen a₁ m.hs x) (sym front_weights) m.is)));
-                wrote =
-                    coe 0 1
-                    (i.
-                    Writes w
-                    (text_of
-                    (counts points (length (take c.0 (e₂ i))) ∷ point_lines 0 chosen ++ arc_lines (e₁ i) (take c.0 (e₂ i)) (take c.0 (e₃ i)) (same_nodes l₁ e₁ i)))
-                    w')
-                    t;
-              };
+          outs = counts points (length (take c.0 a₂)) ∷ point_lines 0 chosen ++ arc_lines a₁ (take c.0 a₂) (take c.0 a₃) (nodes_of starts);
+          does =
+              λ ℓ k n p q.
+              subst
+              (λ (x : ℕ).
+              Builds ℓ starts heads weights k (asking (map_over (map_with a₁ a₂ a₃) c))
+              (counts x (length (take c.0 a₂)) ∷ point_lines 0 chosen ++ arc_lines a₁ (take c.0 a₂) (take c.0 a₃) (nodes_of starts)))
+              (sym q)
+              (built n p m.sound m.fits
+              (subst (λ (x : List ℕ). OverlayOf (road starts heads weights) chosen a₁ x (take c.0 a₃)) (sym front_heads)
+              (subst (λ (x : List ℕ). OverlayOf (road starts heads weights) chosen a₁ m.hs x) (sym front_weights) m.is)));
+          wrote =
+              coe 0 1
+              (i.
+              Writes w
+              (text_of
+              (counts points (length (take c.0 (e₂ i))) ∷ point_lines 0 chosen ++ arc_lines (e₁ i) (take c.0 (e₂ i)) (take c.0 (e₃ i)) (same_nodes l₁ e₁ i)))
+              w')
+              t;
         }
 
 -- the cover
@@ -269,7 +265,7 @@ module _ (starts heads weights : List ℕ) (k : ℕ) (b : List ℕ) where
         Built k (record { starts = starts; heads = heads; weights = weights; chosen = c; over_starts = o₁; over_heads = o₂; over_weights = o₃ }) res w w'
     built_laid points (Err r) w w' f l =
         let m = cover_made (answer (points ∷ [])) (take (nodes_of starts) c) points refl (subst (CoverFound starts heads weights k b (answer (points ∷ []))) (sym e₁) f) in
-        l.each k m.sound m.pruned m.count
+        record { does = λ ℓ. l.does ℓ k m.sound m.pruned m.count; same = l.same }
     built_laid points (Ok o) w w' f l =
         let m = cover_made (answer (points ∷ [])) (take (nodes_of starts) c) points refl (subst (CoverFound starts heads weights k b (answer (points ∷ []))) (sym e₁) f) in
         coe 0 1
@@ -286,4 +282,4 @@ module _ (starts heads weights : List ℕ) (k : ℕ) (b : List ℕ) where
           over_weights = take o.0 o₃;
         }))
         w w')
-        (l.each k m.sound m.pruned m.count)
+        (record { outs = l.outs; does = λ ℓ. l.does ℓ k m.sound m.pruned m.count; wrote = l.wrote })

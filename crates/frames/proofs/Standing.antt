@@ -1,5 +1,5 @@
 -- The stage that the phase and the areas stand for, after each function.
-use mathlib.Core.Path.{◌≡◌, ap, subst, ◌∙◌}
+use mathlib.Core.Path.{◌≡◌, ap, subst}
 use mathlib.Core.List.{List, []}
 use Prim.Native.Nat.{ℕ, suc, ◌+◌, ◌≤◌, ◌<◌}
 use native.Mathlib.Omega.{arith}
@@ -12,13 +12,13 @@ use Rattle.road.specs.Roads.{nodes_of}
 use Rattle.hexlines.proofs.Growing.{writes_none}
 use Rattle.hexlines.specs.Outputs.{Out}
 use Rattle.hexlines.specs.declared.Writer.{Writer}
-use Rattle.maps.specs.Lists.{belows, starts_of}
+use Rattle.maps.specs.Lists.{starts_of}
 use Rattle.frames.specs.declared.Areas.{Areas}
 use Rattle.frames.specs.declared.Load.{Load}
 use Rattle.frames.specs.workings.Held.{Leaves, Prints, Refuses, builds_in, loads_in, map_front}
 use Rattle.frames.specs.Stages.{loading_in, map_of}
 use Rattle.frames.specs.Steps.{Stage, Builds, asking, stopped, more, complete, refused_by}
-use Rattle.frames.proofs.Fitting.{take_belows}
+use Rattle.frames.proofs.Fitting.{belows_long}
 
 -- what P allows, Q allows, in stages that are the same
 pub leaves_as :
@@ -34,23 +34,17 @@ pub refuses_as :
 refuses_as P Q r w w' t l = record { does = λ ℓ. t ℓ stopped (refused_by r ℓ) (l.does ℓ); same = l.same }
 
 -- the graph is complete
-module _ (load : Load) (A : Areas) (starts : List ℕ) (nodes : load.n.0 ≤ 512) (k : ℕ) (all : k ≡ 513) (long : length starts ≡ k) where
-  started : starts ≡ belows (take load.m.0 A.tails) 0 k → take (load.n.0 + 1) starts ≡ starts_of load.n.0 (take load.m.0 A.tails)
-  started e =
-      let z : load.n.0 + 1 ≡ suc load.n.0 = omega arith in
-      ap (take (load.n.0 + 1)) e ∙ take_belows (take load.m.0 A.tails) (load.n.0 + 1) k 0 (omega arith) ∙
-      ap (belows (take load.m.0 A.tails) 0) z
-
+module _ (load : Load) (A : Areas) (starts : List ℕ) (e : take (load.n.0 + 1) starts ≡ starts_of load.n.0 (take load.m.0 A.tails)) where
   size : length (take (load.n.0 + 1) starts) ≡ load.n.0 + 1
-  size = length-take-le (load.n.0 + 1) starts (omega arith)
+  size = omega (arith, ap length e, belows_long (take load.m.0 A.tails) 0 (suc load.n.0))
 
-  module _ (e : starts ≡ belows (take load.m.0 A.tails) 0 k) (w w' : Writer) where
+  module _ (w w' : Writer) where
     abbrev Here : ℕ → Stage → List Out → Type 0
     Here ℓ = Builds ℓ (take (load.n.0 + 1) starts) (take load.m.0 A.heads) (take load.m.0 A.weights) load.k.0
 
     here_builds : (ℓ : ℕ) (x : Stage) (o : List Out) → Here ℓ x o → builds_in load A ℓ x o
     here_builds ℓ x o =
-        subst (λ (l : List ℕ). Builds ℓ l (take load.m.0 A.heads) (take load.m.0 A.weights) load.k.0 x o) (started e)
+        subst (λ (l : List ℕ). Builds ℓ l (take load.m.0 A.heads) (take load.m.0 A.weights) load.k.0 x o) e
 
     pub completed_refused : (r : Refusal) → Refuses Here r w w' → Refuses (builds_in load A) r w w'
     completed_refused r l = refuses_as Here (builds_in load A) r w w' here_builds l

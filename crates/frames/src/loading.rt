@@ -1,6 +1,7 @@
 // The head and the arcs as they are read, and the graph once it is complete. MapRoom stands as a
 // clause: it is a fact of the writer, which knows no map.
-ghost use Rattle.std.specs.Prelude.{◌≡◌, List, ℕ, ◌+◌, ◌≤◌, IfOk, ⊤};
+ghost use Rattle.std.specs.Prelude.{◌≡◌, List, ℕ, ◌+◌, ◌≤◌, length, take, IfOk, ⊤};
+ghost use Rattle.maps.specs.Lists.{starts_of};
 ghost use Rattle.frames.specs.Held.{LoadFits, MapRoom};
 ghost use Rattle.frames.specs.workings.Held.{Kept, Leaves, Limited, builds_in, loads_in};
 ghost use Rattle.frames.specs.workings.Judging.{Falls, Judged};
@@ -8,11 +9,20 @@ ghost use Rattle.frames.specs.Stages.{loading_in, stage_by};
 ghost use Rattle.frames.specs.Steps.{begun};
 
 use crate::building::build;
-use crate::{Areas, Load, Phase, Sizes};
+use crate::{Areas, Load, MOST_STARTS, Phase, Sizes};
 use hexlines::Writer;
 use maps::write_starts;
 use readings::Line;
 use road::{ArcCount, Graph, NodeCount, Refusal};
+
+// Writes the n + 1 starts of arcs with these tails. A function of its own: tried within `complete`, and
+// the proof didn't close, since what a struct's array holds once a part of it was lent is not known.
+fn write_front(tails: &[u32], n: NodeCount, starts: &mut [u32; MOST_STARTS])
+    requires limits { (length tails.now ≤ 2048) × (n.0 ≤ 512) }
+    ensures { take (n.0 + 1) starts.new ≡ starts_of n.0 tails.now }
+{
+    write_starts(tails, &mut starts[..n.0 + 1]);
+}
 
 // The graph is complete: the map is built.
 fn complete(load: Load, areas: &mut Areas, out: &mut Writer) -> Result<Phase, Refusal>
@@ -22,7 +32,7 @@ fn complete(load: Load, areas: &mut Areas, out: &mut Writer) -> Result<Phase, Re
     ensures kept { IfOk result (Kept (λ ℓ. ⊤)) }
 {
     let Load { n, m, k, .. } = load;
-    write_starts(&areas.tails[..m.0], &mut areas.starts);
+    write_front(&areas.tails[..m.0], n, &mut areas.starts);
     let graph = Graph {
         starts: &areas.starts[..n.0 + 1],
         heads: &areas.heads[..m.0],

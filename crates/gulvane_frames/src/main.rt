@@ -5,7 +5,7 @@
 ghost use Rattle.std.specs.Prelude.{◌≡◌, true, ◌≤◌, length, IfOk};
 ghost use Rattle.frames.specs.Held.{Good};
 ghost use Rattle.frames.specs.Stages.{goes};
-ghost use Rattle.gulvane_frames.specs.workings.Runs.{Filled, Fits, Roomy};
+ghost use Rattle.gulvane_frames.specs.workings.Runs.{Filled, Fits, Roomy, Unwritten};
 
 use frames::{Areas, Phase, State, first, take_end, take_line, take_unended};
 use hexlines::Writer;
@@ -41,13 +41,14 @@ impl Kept {
     }
 }
 
-// Moves bytes from the chunk to the line, up to a line feed, and says whether one ended them. No
-// frame has more than 260 characters, so that of a longer line the first 261 are enough
-// (`cut_step` in `frames`).
+// Moves bytes from the chunk to the line, up to a line feed, and says whether one ended them. What was
+// read stays as it was. No frame has more than 260 characters, so that of a longer line the first 261
+// are enough (`cut_step` in `frames`).
 fn cut(chunk: &mut Chunk, line: &mut Kept) -> bool
     requires filled { Filled chunk.old }
     requires fits { Fits line.old }
     ensures filled { Filled chunk.new }
+    ensures read { (chunk.new.bytes ≡ chunk.old.bytes) × (chunk.new.filled ≡ chunk.old.filled) }
     ensures fits { Fits line.new }
 {
     let Chunk { used, filled, .. } = *chunk;
@@ -66,14 +67,24 @@ fn cut(chunk: &mut Chunk, line: &mut Kept) -> bool
     }
 }
 
-// Prints what waits. Here and below an error is of the write or the read alone, and ends the program;
-// what the arrays then hold is not said.
+// Prints the bytes before the writer's place. Lent the writer by `&`: tried within `flush`, and of a slice
+// lent out of a `&mut Writer` no more than its length is known afterwards. Here and below an error is of
+// the write or the read alone, and ends the program.
+fn print_waiting(rt: &impl Print, out: &Writer) -> io::Result<()>
+    requires { out.now.at ≤ length out.now.buf.now }
+{
+    // The whole slice first: a part of it behind this `&` is not covered by the check.
+    let buf = &*out.buf;
+    rt.write_all(&buf[..out.at])
+}
+
+// Prints what waits: then nothing does.
 fn flush(rt: &impl Print, out: &mut Writer) -> io::Result<()>
     requires { out.old.at ≤ length out.old.buf.now }
-    ensures { IfOk result (λ u. (out.new.at ≡ 0) × (length out.new.buf.now ≡ length out.old.buf.now)) }
+    ensures unwritten { Unwritten out.old out.new }
+    ensures none { IfOk result (λ u. out.new.at ≡ 0) }
 {
-    let at = out.at;
-    rt.write_all(&out.buf[..at])?;
+    print_waiting(rt, out)?;
     out.at = 0;
     Ok(())
 }
@@ -82,7 +93,8 @@ fn flush(rt: &impl Print, out: &mut Writer) -> io::Result<()>
 fn drain(rt: &impl Print, out: &mut Writer) -> io::Result<()>
     requires waits { out.old.at ≤ length out.old.buf.now }
     requires long { length out.old.buf.now ≡ 131072 }
-    ensures { IfOk result (λ u. Roomy out.new) }
+    ensures unwritten { Unwritten out.old out.new }
+    ensures roomy { IfOk result (λ u. Roomy out.new) }
 {
     if out.at > 49152 {
         flush(rt, out)?;
@@ -104,7 +116,8 @@ fn finish(s: State, line: &Kept, out: &mut Writer) -> State
     take_end(s, out)
 }
 
-// Reads more of the input, or takes a line or a piece of one.
+// Reads more of the input, or takes a line or a piece of one. What the arrays hold after an error is not
+// said.
 fn turn(
     rt: &(impl Input + Print),
     s: State,

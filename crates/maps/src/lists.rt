@@ -12,12 +12,16 @@ pub fn count_up(s: &mut [u32])
     }
 }
 
-// How many of the tails are below v.
+// How many of the tails are below v. A `for` that adds 0 or 1, since `filter` and `count` are slower.
 fn count_below(tails: &[u32], v: usize) -> u32
     requires { length tails.now ≤ 4096 }
     ensures { result ≡ count_by (λ x. ltb x v) tails.now }
 {
-    tails.iter().filter(|t| (**t as usize) < v).count() as u32
+    let mut count = 0;
+    for tail in tails {
+        count += u32::from((*tail as usize) < v);
+    }
+    count
 }
 
 // The starts of arcs with these tails. Each counts over all tails: `belows` is stated for tails in

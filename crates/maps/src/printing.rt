@@ -7,8 +7,7 @@ ghost use Rattle.maps.specs.workings.Printing.{RowsFit};
 ghost use Rattle.road.specs.Roads.{nodes_of};
 
 use hexlines::Writer;
-use road::Graph;
-use std::ops::Range;
+use road::{Graph, Span};
 
 // A line for each node of the set, ascending.
 pub fn write_points(out: &mut Writer, set: &[u8])
@@ -23,13 +22,13 @@ pub fn write_points(out: &mut Writer, set: &[u8])
 }
 
 // A line for each arc of one tail, whose arcs stand in this row.
-fn write_row(out: &mut Writer, tail: usize, row: Range<usize>, graph: &Graph)
-    requires rises { row.start ≤ row.end }
+fn write_row(out: &mut Writer, tail: usize, row: Span, graph: &Graph)
+    requires rises { row.first ≤ row.end }
     requires within { (row.end ≤ length graph.now.heads.now) × (row.end ≤ length graph.now.weights.now) }
-    requires room { out.old.at + 19 * (row.end - row.start) ≤ length out.old.buf.now }
-    ensures { Writes out.old (text_of (row_lines graph.now.heads.now graph.now.weights.now tail row.start (row.end - row.start))) out.new }
+    requires room { out.old.at + 19 * (row.end - row.first) ≤ length out.old.buf.now }
+    ensures { Writes out.old (text_of (row_lines graph.now.heads.now graph.now.weights.now tail row.first (row.end - row.first))) out.new }
 {
-    for p in row.start..row.end {
+    for p in row.first..row.end {
         out.arc(tail, graph.heads[p], graph.weights[p]);
     }
 }

@@ -8,7 +8,7 @@ use lib.ListN.{length, get_or}
 use Rattle.road.specs.declared.Refusal.{Refusal}
 use Rattle.road.specs.declared.Refusal.TheVariants.{Overlay}
 use Rattle.std.specs.Prelude.{Ok, Err, is_ok}
-use Rattle.std.specs.declared.ops.Range.{Range}
+use Rattle.road.specs.declared.Span.{Span}
 use Rattle.road.specs.workings.Scans.{RowOf}
 use Rattle.road.specs.Faults.{InSet, graph_faults}
 use Rattle.road.specs.Limits.{overlay_limits}
@@ -22,8 +22,8 @@ use Rattle.overlay.specs.Lent.{BadOverlay}
 use Rattle.overlay.specs.workings.Ends.{RowEnds, RowEndsTo, EndsBelow, JudgesRow}
 
 -- a place within the row that the code goes over is one of the tail's
-pub owned_at : {starts : List ℕ} {u : ℕ} (r : Range ℕ) (p : ℕ) → RowOf starts u r → r.start ≤ p → p < r.end → Owns starts u p
-owned_at r p w h g = record { from = omega (arith, w.start); below = omega (arith, w.end) }
+pub owned_at : {starts : List ℕ} {u : ℕ} (r : Span) (p : ℕ) → RowOf starts u r → r.first ≤ p → p < r.end → Owns starts u p
+owned_at r p w h g = record { from = omega (arith, w.first); below = omega (arith, w.end) }
 
 module _ (chosen starts heads : List ℕ) (u : ℕ) where
   pub ends_none : (p : ℕ) → p ≡ get_or starts u 0 → RowEndsTo chosen starts heads u p

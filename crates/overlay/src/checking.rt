@@ -17,7 +17,7 @@ fn check_row(set: &[u8], overlay: &Graph, tail: usize) -> Result<(), Refusal>
 {
     let heads = overlay.heads;
     let row = overlay.row(tail);
-    for p in row.start..row.end {
+    for p in row.first..row.end {
         if set[tail] != 1 || set[heads[p] as usize] != 1 {
             return Err(Refusal::Overlay);
         }

@@ -32,7 +32,7 @@ impl Side<'_> {
     {
         let row = self.graph.row(v);
         let mut best = p;
-        for i in row.start..row.end {
+        for i in row.first..row.end {
             best = self.above(best, self.graph.heads[i]);
         }
         best
@@ -56,7 +56,7 @@ impl Side<'_> {
     {
         let row = self.graph.row(v);
         let mut best = 0;
-        for i in row.start..row.end {
+        for i in row.first..row.end {
             best = best.max(self.size_of(but, self.graph.heads[i]));
         }
         best
@@ -99,7 +99,7 @@ fn raise_row(
 {
     let row = graph.row(x);
     let mut count = waiting;
-    for i in row.start..row.end {
+    for i in row.first..row.end {
         count = raise(cover, pieces, sizes, count, r, graph.heads[i]);
     }
     count

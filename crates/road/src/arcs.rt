@@ -37,7 +37,7 @@ fn check_row(graph: &Graph, limits: Limits, tail: usize) -> Result<(), Refusal>
     ensures { Scanned limits graph.now.starts.now graph.now.heads.now graph.now.weights.now tail result }
 {
     let row = graph.row(tail);
-    for p in row.start..row.end {
+    for p in row.first..row.end {
         check_arc(graph, limits, tail, p)?;
     }
     Ok(())

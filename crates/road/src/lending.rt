@@ -7,8 +7,7 @@ ghost use Rattle.road.specs.workings.Scans.{RowOf};
 ghost use Rattle.road.specs.workings.Sound.{Sorted};
 ghost use Rattle.road.specs.workings.Verdicts.{Tells};
 
-use crate::{Graph, GraphMut, NodeCount};
-use std::ops::Range;
+use crate::{Graph, GraphMut, NodeCount, Span};
 
 impl Graph<'_> {
     // The number of its nodes.
@@ -18,13 +17,15 @@ impl Graph<'_> {
         NodeCount(self.starts.len().saturating_sub(1))
     }
 
-    // The places at which the arcs with this tail stand. They are gone through as `start..end`: over the
-    // range itself the proof goes by the iterator's general laws and is far longer.
-    pub fn row(&self, tail: usize) -> Range<usize>
+    // Where the arcs with this tail stand.
+    pub fn row(&self, tail: usize) -> Span
         requires { tail + 1 < length self.now.starts.now }
         ensures { RowOf self.now.starts.now tail result }
     {
-        self.starts[tail] as usize..self.starts[tail + 1] as usize
+        Span {
+            first: self.starts[tail] as usize,
+            end: self.starts[tail + 1] as usize,
+        }
     }
 
     // Whether an arc leads from u to v. The heads of one tail ascend, so its row is halved until v is
@@ -37,7 +38,7 @@ impl Graph<'_> {
         // By hand: with the library's binary search a drive takes half as long again to thin.
         let heads = self.heads;
         let row = self.row(u);
-        let mut low = row.start;
+        let mut low = row.first;
         let mut high = row.end;
         while low < high {
             let middle = low + (high - low) / 2;

@@ -56,6 +56,13 @@ pub struct GraphMut<'a> {
     pub weights: &'a mut [u32],
 }
 
+// The places from `first` up to, but not including, `end`. Not std's `Range`, which is not `Copy`.
+#[derive(Clone, Copy)]
+pub struct Span {
+    pub first: usize,
+    pub end: usize,
+}
+
 // What a graph may have at most: the road's limits, or the overlay's.
 #[derive(Clone, Copy)]
 pub struct Limits {

@@ -46,13 +46,15 @@ impl Ask<'_> {
         let weights = self.graph.weights;
         let base = labels[u];
         let row = self.graph.row(u);
-        for p in row.start..row.end {
+        for p in row.first..row.end {
             let x = base + u64::from(weights[p]);
             offer(labels, queue, heads[p] as usize, x);
         }
     }
 
-    // Takes a node that waits, and where it may be left offers its neighbours labels.
+    // Takes a node that waits, and where it may be left offers its neighbours labels. Inlined, so that
+    // the queue of who counts the takes stays in registers.
+    #[inline(always)]
     pub fn take_one(&self, labels: &mut [u64], queue: &mut Queue)
         requires going { GoingOf self.now.graph self.now.blocked.now self.now.source labels.old queue.old All }
         requires one_waits { 1 ≤ queue.old.waiting }
@@ -61,7 +63,8 @@ impl Ask<'_> {
         ensures slices { SameSlices queue.old queue.new }
     {
         let u = queue.take(labels);
-        if u == self.source || self.blocked[u] == 0 {
+        let free = self.blocked[u] == 0;
+        if u == self.source || free {
             self.relax(u, labels, queue);
         }
     }

@@ -5,25 +5,25 @@
 // cover would hold it for one of them alone.
 ghost use Rattle.std.specs.Prelude.{◌+◌, ◌≤◌, ◌<◌, length};
 ghost use Rattle.road.specs.workings.Verdicts.{Tells};
-ghost use Rattle.trails.specs.workings.Search.{Grows, Inward, Longest, Outward, Searchable, Within};
+ghost use Rattle.trails.specs.workings.Search.{FreeNode, Inward, Longest, Outward, Searchable, Within};
 ghost use Rattle.trails.specs.Trails.{on_trail};
 
 use crate::Trail;
 use road::{Graph, NodeCount};
 
-// The path with v on it, if v is dropped and not on the path yet.
-fn grown(cover: &[u8], t: Trail, v: u32) -> Option<Trail>
+// Whether v is dropped and not on the path yet.
+fn is_free(cover: &[u8], t: Trail, v: u32) -> bool
     requires v_in_bounds { v < length cover.now }
-    requires count_bound { t.count.0 < 32 }
-    ensures { Grows cover.now t v result }
+    requires count_bound { t.count.0 ≤ 32 }
+    ensures { Tells result (FreeNode cover.now (on_trail t) v) }
 {
     if cover[v as usize] != 0 {
-        return None;
+        return false;
     }
     if t.has(v) {
-        return None;
+        return false;
     }
-    t.push(v)
+    true
 }
 
 // At the outward end alone. `longest` would tell this too, by whether it reaches all that are
@@ -39,9 +39,12 @@ fn outward(graph: &Graph, cover: &[u8], t: Trail, last: usize, missing: NodeCoun
     }
     let row = graph.row(last);
     let fewer = NodeCount(missing.0 - 1);
-    for p in row.start..row.end {
+    for p in row.first..row.end {
         let v = graph.heads[p];
-        if let Some(longer) = grown(cover, t, v) {
+        if is_free(cover, t, v) {
+            let Some(longer) = t.push(v) else {
+                return false;
+            };
             if outward(graph, cover, longer, v as usize, fewer) {
                 return true;
             }
@@ -63,9 +66,12 @@ pub fn longest(graph: &Graph, cover: &[u8], t: Trail, last: usize, most: NodeCou
     let row = graph.row(last);
     let fewer = NodeCount(most.0 - 1);
     let mut best = 0;
-    for p in row.start..row.end {
+    for p in row.first..row.end {
         let v = graph.heads[p];
-        if let Some(longer) = grown(cover, t, v) {
+        if is_free(cover, t, v) {
+            let Some(longer) = t.push(v) else {
+                return NodeCount(best);
+            };
             let found = longest(graph, cover, longer, v as usize, fewer);
             best = best.max(found.0 + 1);
             if most.0 <= best {
@@ -104,9 +110,12 @@ pub fn inward(
     }
     let row = back.row(first);
     let fewer = NodeCount(missing.0 - 1);
-    for p in row.start..row.end {
+    for p in row.first..row.end {
         let v = back.heads[p];
-        if let Some(longer) = grown(cover, t, v) {
+        if is_free(cover, t, v) {
+            let Some(longer) = t.push(v) else {
+                return false;
+            };
             if inward(graph, back, cover, longer, v as usize, last, fewer, reach) {
                 return true;
             }

@@ -94,12 +94,16 @@ map_over M over =
       over_weights = take over.0 M.over_weights;
     }
 
+-- the moment of building once the cover is there, which is right for some k and has so many points
+abbrev pub lays_in : ℕ → Map → ℕ → Stage → List Out → Type 0
+lays_in points M ℓ s outs =
+    (k : ℕ) → None (cover_faults M.starts M.heads M.weights k (numbers 0 (nodes_of M.starts))) →
+    Pruned (PathOf (road M.starts M.heads M.weights) k) (nodes_of M.starts) (numbers 0 (nodes_of M.starts)) M.chosen → points ≡ times 1 M.chosen →
+    Builds ℓ M.starts M.heads M.weights k s outs
+
 -- the overlay of a cover is built and the map printed, or it is refused
-pub record Laid (points : ℕ) (M : Map) (answer : Result ArcCount Refusal) (w w' : Writer) : Type 0 where
-  pub each :
-      (k : ℕ) → None (cover_faults M.starts M.heads M.weights k (numbers 0 (nodes_of M.starts))) →
-      Pruned (PathOf (road M.starts M.heads M.weights) k) (nodes_of M.starts) (numbers 0 (nodes_of M.starts)) M.chosen → points ≡ times 1 M.chosen →
-      Leaves (λ ℓ. Builds ℓ M.starts M.heads M.weights k) (λ over. asking (map_over M over)) answer w w'
+abbrev pub Laid : ℕ → Map → Result ArcCount Refusal → Writer → Writer → Type 0
+Laid points M = Leaves (lays_in points M) (λ over. asking (map_over M over))
 
 -- the map whose cover and overlay stand at the front of their slices
 abbrev pub map_front : Map → ArcCount → Map

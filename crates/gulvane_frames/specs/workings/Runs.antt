@@ -17,3 +17,8 @@ pub record Fits (l : Kept) : Type 0 where
 pub record Roomy (w : Writer) : Type 0 where
   pub long : length w.buf.now ≡ 131072
   pub waits : w.at ≤ 49152
+
+-- nothing is written over: the same slice, with the same bytes
+pub record Unwritten (w w' : Writer) : Type 0 where
+  pub same : w'.buf.ghost_name ≡ w.buf.ghost_name
+  pub bytes : w'.buf.now ≡ w.buf.now

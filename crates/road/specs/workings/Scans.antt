@@ -1,7 +1,7 @@
 -- Check 3 on its way through the rows, and check 10 along a drive.
 use Rattle.std.specs.Prelude.{◌≡◌, List, ℕ, ◌+◌, ◌<◌, length, get_or, Ok, Err}
 use Rattle.road.specs.declared.Limits.{Limits}
-use Rattle.std.specs.declared.ops.Range.{Range}
+use Rattle.road.specs.declared.Span.{Span}
 use Rattle.road.specs.workings.Verdicts.{Verdict}
 use Rattle.road.specs.Faults.{ArcFault, arc_faults}
 use Rattle.road.specs.Refusals.{None}
@@ -10,8 +10,8 @@ use Rattle.road.specs.workings.Sound.{Rising}
 use Rattle.road.specs.Drives.{Joined, drive_fault}
 
 -- the places of tail u's arcs
-pub record RowOf (starts : List ℕ) (u : ℕ) (r : Range ℕ) : Type 0 where
-  pub start : r.start ≡ get_or starts u 0
+pub record RowOf (starts : List ℕ) (u : ℕ) (r : Span) : Type 0 where
+  pub first : r.first ≡ get_or starts u 0
   pub end : r.end ≡ get_or starts (u + 1) 0
 
 -- a place and its tail, where checks 1 and 2 passed

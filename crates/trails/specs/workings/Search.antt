@@ -1,11 +1,9 @@
 -- When the path under trial can be completed.
-use Rattle.std.specs.Prelude.{◌≡◌, Option, MatchOption, List, [], ◌∷◌, ◌++◌, ℕ, suc, ◌+◌, ◌≤◌, ◌<◌, length, get_or}
+use Rattle.std.specs.Prelude.{◌≡◌, List, [], ◌∷◌, ◌++◌, ℕ, suc, ◌+◌, ◌≤◌, ◌<◌, length, get_or}
 use Rattle.paths.specs.Lists.{Mem}
 use Rattle.road.specs.Drives.{Joined}
 use Rattle.road.specs.workings.Sound.{Rising}
 use Rattle.rule.specs.Rule.{Dropped}
-use Rattle.trails.specs.declared.Trail.{Trail}
-use Rattle.trails.specs.Trails.{on_trail, Longer}
 
 -- `Completes Next Free End on a m`: the path with the nodes `on`, which ends at a, can be completed by m nodes. Either it is
 -- complete at this end, which `End` tells of the nodes on it and of those missing; or Next leads from a to a free node that is not on
@@ -38,10 +36,6 @@ pub record Searchable (starts heads : List ℕ) (n : ℕ) : Type 0 where
 pub record FreeNode (cover on : List ℕ) (v : ℕ) : Type 0 where
   pub dropped : Dropped cover v
   pub new : Mem v on → ⊥
-
--- the path with v on it where v can come onto it, and none where it can't
-abbrev pub Grows : List ℕ → Trail → ℕ → Option Trail → Type 0
-Grows cover t v r = MatchOption r (FreeNode cover (on_trail t) v → ⊥) (λ u. FreeNode cover (on_trail t) v × Longer t v u)
 
 -- r nodes can come onto the path at its outward end, and of up to `most` nodes no more can
 pub record Longest (starts heads cover on : List ℕ) (last most r : ℕ) : Type 0 where

@@ -34,5 +34,5 @@ ready starts heads weights blocked v j e s b =
     nodes : 4096 ≡ nodes_of starts
     nodes = omega arith
 
-pub takes-taken-requires : goal.takes-taken-requires
-takes-taken-requires g c = ready _ _ _ _ _ (rw c.overlay_limits.ensures at c.check_graph.ensures) c.in_default.is c.graph-graph.ensures (search rules)
+pub count-requires : goal.count-requires
+count-requires g c = ready _ _ _ _ _ (rw c.overlay_limits.ensures at c.check_graph.ensures) c.in_default.is c.graph-graph.ensures (search rules)

@@ -1,5 +1,3 @@
-use lib.ListN.{length}
-use mathlib.Core.Path.{◌≡◌}
 use Rattle.std.proofs.lemmas.Result.{err_from_is_err_and}
 use Rattle.frames.proofs.Standing.{completed, completed_refused}
 use Rattle.frames.proofs.loading.complete.Goals as goal
@@ -7,13 +5,7 @@ use Rattle.frames.proofs.loading.complete.Goals as goal
 pub returns-in_err-over-clause-leaves : goal.returns-in_err-over-clause-leaves
 returns-in_err-over-clause-leaves c =
     let p = err_from_is_err_and c.from_residual.result c.from_residual.ensures.1 in
-    let all : length c.args.areas.now.starts ≡ 513 = search in
-    rw (p.1, p.2)
-    (completed_refused c.args.load c.args.areas.now _ c.requires.limits.0 _ all c.write_starts.auto.starts c.write_starts.ensures _ _ _
-    c.in_err-over.ensures.built)
+    rw (p.1, p.2) (completed_refused c.args.load c.args.areas.now _ c.write_front.ensures _ _ _ c.in_err-over.ensures.built)
 
 pub returns-clause-leaves : goal.returns-clause-leaves
-returns-clause-leaves c =
-    let all : length c.args.areas.now.starts ≡ 513 = search in
-    completed c.args.load c.args.areas.now _ c.requires.limits.0 _ all c.write_starts.auto.starts c.write_starts.ensures _ _ _ _ _ _ _
-    c.in_ok-over.ensures.built
+returns-clause-leaves c = completed c.args.load c.args.areas.now _ c.write_front.ensures _ _ _ _ _ _ _ c.in_ok-over.ensures.built

@@ -4,7 +4,7 @@ use Rattle.pieces.specs.workings.Pieces.{none}
 use Rattle.pieces.proofs.sizes.raise_row.Goals as goal
 
 pub loop-i-init : goal.loop-i-init
-loop-i-init c = (none, row_none _ _ _ _ _ c.requires.searchable c.requires.x_in_bounds c.row-row.ensures.end _ _ c.row-row.ensures.start)
+loop-i-init c = (none, row_none _ _ _ _ _ c.requires.searchable c.requires.x_in_bounds c.row-row.ensures.end _ _ c.row-row.ensures.first)
 
 pub raise-count-requires-clause-room : goal.raise-count-requires-clause-room
 raise-count-requires-clause-room c = room_after c.loop-i.invariant.0 c.requires.room

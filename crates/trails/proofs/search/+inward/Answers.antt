@@ -23,7 +23,7 @@ inward-requires t c =
 
 pub returns-then-inward : goal.returns-then-inward
 returns-then-inward t c = tells_yes
-    (leads _ _ _ _ _ c.requires.back_searchable.rising _ _ c.if-missing-eq0.false _ c.loop-p.invariant.0 (omega (arith, c.loop-p-test.true, c.row-row.ensures.end)) c.in-Some.ensures.0
+    (leads _ _ _ _ _ c.requires.back_searchable.rising _ _ c.if-missing-eq0.false _ c.loop-p.invariant.0 (omega (arith, c.loop-p-test.true, c.row-row.ensures.end)) (c.is_free.ensures.yes c.if-is_free.true)
     ((carried (λ (l : List ℕ). Inward c.args.graph.now.starts.now c.args.graph.now.heads.now c.args.back.now.starts.now c.args.back.now.heads.now c.args.cover.now c.args.last l (get_or c.args.back.now.heads.now c.loop-p.p 0) (c.args.missing.0 - 1)) _ _ c.in-Some.ensures.1.nodes c.inward.ensures).yes c.if-inward.true))
 
 pub returns-then-reach-missing : goal.returns-then-reach-missing

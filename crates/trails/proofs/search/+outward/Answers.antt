@@ -18,7 +18,7 @@ bounds-graph-p t c = place_listed _ _ _ _ _ c.requires.searchable c.loop-p.invar
 
 pub returns-then-outward : goal.returns-then-outward
 returns-then-outward t c = tells_yes
-    (leads _ _ _ _ _ c.requires.searchable.rising _ _ c.if-missing-eq0.false _ c.loop-p.invariant.0 (omega (arith, c.loop-p-test.true, c.row-row.ensures.end)) c.in-Some.ensures.0
+    (leads _ _ _ _ _ c.requires.searchable.rising _ _ c.if-missing-eq0.false _ c.loop-p.invariant.0 (omega (arith, c.loop-p-test.true, c.row-row.ensures.end)) (c.is_free.ensures.yes c.if-is_free.true)
     ((carried (λ (l : List ℕ). Outward c.args.graph.now.starts.now c.args.graph.now.heads.now c.args.cover.now l (get_or c.args.graph.now.heads.now c.loop-p.p 0) (c.args.missing.0 - 1)) _ _ c.in-Some.ensures.1.nodes c.outward.ensures).yes c.if-outward.true))
 
 pub returns : goal.returns

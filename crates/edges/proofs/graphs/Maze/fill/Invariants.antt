@@ -1,5 +1,5 @@
 use Rattle.std.proofs.Common.{◌≤◌}
-use Rattle.edges.proofs.graphs.Maze.new.Given as goal
+use Rattle.edges.proofs.graphs.Maze.fill.Given as goal
 
 abbrev pub invariant-loop-j : goal.invariant-loop-j
 invariant-loop-j l = l.arcs ≤ 16384
